@@ -1,0 +1,5 @@
+pub mod Arithmetic
+pub mod Mode
+pub mod Series
+pub mod Buffer
+pub mod Refusal

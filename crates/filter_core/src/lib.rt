@@ -1,0 +1,63 @@
+// What the six filters share: their two enums, the length that a buffer form works over, the choice of an output by mode, and the
+// evaluator of a power series.
+
+ghost use mathlib.Core.Path.{_≡_};
+ghost use Prim.Native.Nat.{min};
+ghost use Rattle.filter_core.specs.Mode.{byMode};
+ghost use Rattle.filter_core.specs.Series.{horner};
+
+pub enum FilterMode {
+    LowPass,
+    BandPass,
+    BandPassNormalized,
+    HighPass,
+}
+
+pub enum FrequencyApproximation {
+    Exact,
+    Accurate,
+    Fast,
+    Dirty,
+}
+
+// A buffer form works over the shortest of the lent lengths.
+pub fn shortest(a: usize, b: usize) -> usize
+    ensures { λ n. ⌜ n ≡ min a b ⌝ }
+{
+    if a < b { a } else { b }
+}
+
+pub fn shortest_of_three(a: usize, b: usize, c: usize) -> usize
+    ensures { λ n. ⌜ n ≡ min a (min b c) ⌝ }
+{
+    shortest(a, shortest(b, c))
+}
+
+// The tap that a mode answers, of four that are computed already.
+pub fn by_mode(mode: FilterMode, low: f32, band: f32, normalized: f32, high: f32) -> f32
+    ensures { λ y. ⌜ y ≡ byMode mode low band normalized high ⌝ }
+{
+    match mode {
+        FilterMode::LowPass => low,
+        FilterMode::BandPass => band,
+        FilterMode::BandPassNormalized => normalized,
+        FilterMode::HighPass => high,
+    }
+}
+
+// row[0] + y * (row[1] + y * (row[2] + ..)), from the row's end; 0 for an empty row.
+pub fn series(y: f32, row: &[f32]) -> f32
+    ensures { λ r. ⌜ r ≡ horner y (now (row .entry)) ⌝ }
+{
+    let mut i = row.len();
+    if i == 0 {
+        return 0.0;
+    }
+    i -= 1;
+    let mut sum = row[i];
+    while 0 < i {
+        i -= 1;
+        sum = row[i] + y * sum;
+    }
+    sum
+}
