@@ -1,0 +1,31 @@
+use Prim.Native.Nat.{_-_}
+use Rattle.filter_core.specs.Buffer.{each, puts}
+use Rattle.filter_core.proofs.Passes.{Going, Leaping, passing}
+use Rattle.svf.specs.Svf.{svfNext, svfOut, svfGained, svfMixed}
+use Rattle.svf.proofs.Svf.mixed_buffer.Statement.{statement}
+use Rattle.svf.proofs.Svf.mixed_buffer.Tie as tie
+
+abbrev Inv-loop : tie.InvT-loop
+Inv-loop in- out₀ high band low n f₀ i₀ out f i = Going (each svfNext) (puts (svfMixed high band low)) in- n f₀ out₀ i f out
+
+abbrev μ-loop : tie.MeasureT-loop
+μ-loop in- out₀ high band low n f₀ i₀ out f i = n - i
+
+pub mixed-buffer-spec : {M : Type 1} → statement M
+mixed-buffer-spec =
+    tie.close
+    (tie.spec
+    Inv-loop
+    μ-loop
+    (λ c κs. search passing)
+    (λ c. search passing)
+    (λ c. search passing)
+    (λ c. search passing)
+    (λ c κs. search passing)
+    (λ c. search passing)
+    (λ c. search passing)
+    (λ c. search passing)
+    (λ c. search passing)
+    (λ c. search passing)
+    (λ c. search passing)
+    (λ c. search passing))

@@ -1,0 +1,14 @@
+use borrow.Author.Needs.{needs}
+use Rattle.svf.proofs.Svf.process_multimode_buffer.Statement.{statement}
+use Rattle.svf.proofs.Svf.process_multimode_buffer.Tie as tie
+
+pub process-multimode-buffer-spec : {M : Type 1} → statement M
+process-multimode-buffer-spec =
+    tie.close
+    (tie.spec
+    (λ c κs. search needs)
+    (λ c κs. search needs)
+    (λ c κs. search needs)
+    (λ c κs. search needs)
+    (λ c. search needs)
+    (λ c. rw (← c .before .before .before .before .before .before .high-gain .ensures, ← c .before .before .before .before .before .band-gain .ensures, ← c .before .before .before .before .low-gain .ensures) (c .before .before .mixed-buffer .ensures)))
