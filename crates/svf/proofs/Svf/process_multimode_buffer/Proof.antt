@@ -11,4 +11,4 @@ process-multimode-buffer-spec =
     (λ c κs. search needs)
     (λ c κs. search needs)
     (λ c. search needs)
-    (λ c. rw (← c .before .before .before .before .before .before .high-gain .ensures, ← c .before .before .before .before .before .band-gain .ensures, ← c .before .before .before .before .low-gain .ensures) (c .before .before .mixed-buffer .ensures)))
+    (λ c. simp (c .before .before .before .before .before .before .high-gain .ensures, c .before .before .before .before .before .band-gain .ensures, c .before .before .before .before .low-gain .ensures) at (c .before .before .mixed-buffer .ensures)))
