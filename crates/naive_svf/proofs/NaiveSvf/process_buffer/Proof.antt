@@ -1,0 +1,31 @@
+use Prim.Native.Nat.{_-_}
+use Rattle.filter_core.specs.Buffer.{each, puts}
+use Rattle.filter_core.proofs.Passes.{Going, Counting, passing}
+use Rattle.naive_svf.specs.NaiveSvf.{naiveNext, naiveOut, naiveLow, naiveHigh}
+use Rattle.naive_svf.proofs.NaiveSvf.process_buffer.Statement.{statement}
+use Rattle.naive_svf.proofs.NaiveSvf.process_buffer.Tie as tie
+
+abbrev Inv-loop : tie.InvT-loop
+Inv-loop in- out₀ mode n f₀ i₀ out f i = Going (each naiveNext) (puts (naiveOut mode)) in- n f₀ out₀ i f out
+
+abbrev μ-loop : tie.MeasureT-loop
+μ-loop in- out₀ mode n f₀ i₀ out f i = n - i
+
+pub process-buffer-spec : {M : Type 1} → statement M
+process-buffer-spec =
+    tie.close
+    (tie.spec
+    Inv-loop
+    μ-loop
+    (λ c κs. search passing)
+    (λ c. search passing)
+    (λ c. search passing)
+    (λ c. search passing)
+    (λ c κs. search passing)
+    (λ c. search passing)
+    (λ c. search passing)
+    (λ c. search passing)
+    (λ c. search passing)
+    (λ c. search passing)
+    (λ c. search passing)
+    (λ c. search passing))
