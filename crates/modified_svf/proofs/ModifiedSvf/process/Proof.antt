@@ -1,0 +1,31 @@
+use Prim.Native.Nat.{_-_}
+use Rattle.filter_core.specs.Buffer.{each, puts}
+use Rattle.filter_core.proofs.Passes.{Going, passing}
+use Rattle.modified_svf.specs.ModifiedSvf.{modifiedNext, modifiedOut}
+use Rattle.modified_svf.proofs.ModifiedSvf.process.Statement.{statement}
+use Rattle.modified_svf.proofs.ModifiedSvf.process.Tie as tie
+
+abbrev Inv-loop : tie.InvT-loop
+Inv-loop in- out₀ mode n f₀ i₀ out f i = Going (each (modifiedNext mode)) (puts (modifiedOut mode)) in- n f₀ out₀ i f out
+
+abbrev μ-loop : tie.MeasureT-loop
+μ-loop in- out₀ mode n f₀ i₀ out f i = n - i
+
+pub process-spec : {M : Type 1} → statement M
+process-spec =
+    tie.close
+    (tie.spec
+    Inv-loop
+    μ-loop
+    (λ c κs. search passing)
+    (λ c. search passing)
+    (λ c. search passing)
+    (λ c. search passing)
+    (λ c κs. search passing)
+    (λ c. search passing)
+    (λ c. search passing)
+    (λ c. search passing)
+    (λ c. search passing)
+    (λ c. search passing)
+    (λ c. search passing)
+    (λ c. search passing))
