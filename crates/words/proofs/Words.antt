@@ -3,6 +3,7 @@ use mathlib.Core.Path.{_≡_, refl, sym, subst, ap, _∙_}
 use mathlib.Core.Bool.{Bool, true, false, not}
 use Prim.Native.Nat.{ℕ, _+_, _-_, _%_, _≤_, _<_}
 use mathlib.Core.List.{List}
+use native.Mathlib.Nat.{add-zero}
 use native.Mathlib.Omega.{arith}
 use lib.Dec.{T, eqb, ltb}
 use lib.Ieee.{Float, nan, inf, fin, binary32, ofBits, toBits, nanBits, isNan, ne, eq}
@@ -10,7 +11,7 @@ use lib.Ieee.Bits.{nanBits-is, nanBits-above, toBits-ofBits}
 use lib.ListN.{length, getD, List·getD-eq-default}
 use borrow.Author.Needs.{needs}
 use borrow.Author.Tests.{lt-ltb, le-ltb, eqb-true}
-use Rattle.words.specs.Word.{writtenNan, otherNan}
+use Rattle.words.specs.Word.{wordOf, wordFrom, writtenNan, otherNan}
 
 pub not-nan : (x : Float) → ne x x ≡ false → T (not (isNan x))
 unfolding ne eq isNan
@@ -41,7 +42,12 @@ past-start s at k h = sym (List·getD-eq-default s 0 (omega arith))
 pub past-end : (s : List ℕ) (at k : ℕ) → length s - at ≤ k → 0 ≡ getD s (at + k) 0
 past-end s at k h = sym (List·getD-eq-default s 0 (omega arith))
 
-pub ruleset ends = (past-start, past-end, needs)
+-- a word by its bytes
+pub by-bytes : (s : List ℕ) (i : ℕ) {w a b c d : ℕ} → a ≡ getD s (i + 0) 0 → b ≡ getD s (i + 1) 0 → c ≡ getD s (i + 2) 0 → d ≡ getD s (i + 3) 0
+    → w ≡ wordOf a b c d → w ≡ wordFrom s i
+by-bytes s i p q r t e = let z = add-zero i in let p′ = rw z at p in cc
+
+pub ruleset ends = (past-start, past-end, by-bytes, needs)
 
 -- a word that is no other NaN comes back when converted to binary32 and back
 pub comes-back : (w : ℕ) → w < 0x1_0000_0000 → otherNan w ≡ false → toBits binary32 (ofBits binary32 w) ≡ w
