@@ -1,0 +1,4 @@
+// Motif sheets.
+mod setter;
+
+pub use setter::{Setter, setter_of};
