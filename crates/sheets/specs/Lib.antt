@@ -1,1 +1,3 @@
 pub mod Kind
+pub mod Refusal
+pub mod Sheet
