@@ -1,1 +1,2 @@
 pub mod KindBytes
+pub mod Checks

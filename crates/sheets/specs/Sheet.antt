@@ -1,5 +1,6 @@
 -- A motif sheet: n as two bytes, low first; n kind bytes; n settings of 12 bytes, which are three words, low byte first.
-use Prim.Native.Nat.{ℕ, _+_, _*_}
+use Prim.Native.Nat.{ℕ, _+_, _*_, _≤_}
+use mathlib.Core.Path.{_≡_}
 use mathlib.Core.Bool.{cond}
 use mathlib.Core.List.{List, []}
 use lib.Dec.{eqb, leb, ltb}
@@ -20,6 +21,12 @@ settingAt s e = take 12 (drop (2 + entriesOf s + 12 * e) s)
 abbrev pub wordAt : List ℕ → ℕ → ℕ → ℕ
 wordAt s e k = wordFrom (settingAt s e) (4 * k)
 
+-- 1 to 64 entries, and the bytes that they take
+pub record Sized (s : List ℕ) : Type 0 where
+  pub some : 1 ≤ entriesOf s
+  pub most : entriesOf s ≤ 64
+  pub long : length s ≡ 2 + 13 * entriesOf s
+
 -- `size` of the refusal table, for a sheet of l bytes and n entries
 abbrev pub sizeRefusal : ℕ → ℕ → ℕ
 sizeRefusal l n = cond (ltb l 2) 2 (cond (ltb n 1) 2 (cond (ltb 64 n) 2 (cond (eqb l (2 + 13 * n)) 0 2)))
@@ -31,9 +38,13 @@ refusalAt s e = entryRefusal (kindAt s e) (wordAt s e 0) (wordAt s e 1) (wordAt 
 abbrev pub checkOf : List ℕ → ℕ
 checkOf s = sizeRefusal (length s) (entriesOf s) then firstRefusal (entriesOf s) (refusalAt s)
 
+-- `entry` of the refusal table, for the entry number e of n
+abbrev pub entryNumberRefusal : ℕ → ℕ → ℕ
+entryNumberRefusal n e = cond (ltb e n) 0 5
+
 -- the number that looking up the entry e gives
 abbrev pub checkEntryOf : List ℕ → ℕ → ℕ
-checkEntryOf s e = checkOf s then cond (ltb e (entriesOf s)) 0 5
+checkEntryOf s e = checkOf s then entryNumberRefusal (entriesOf s) e
 
 -- the entry's setting, as a part of the sheet
 abbrev pub lookupOf : List ℕ → ℕ → List ℕ

@@ -2,4 +2,9 @@
 mod refusal;
 mod setter;
 
-pub use setter::{Setter, setter_of};
+pub use refusal::check;
+pub use refusal::check_entry;
+pub use refusal::entries;
+pub use refusal::lookup;
+pub use setter::Setter;
+pub use setter::setter_of;

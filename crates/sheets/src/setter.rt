@@ -2,7 +2,6 @@
 
 ghost use mathlib.Core.Path.{_≡_};
 ghost use Rattle.sheets.specs.Kind.{setterOf};
-
 use filter_core::FrequencyApproximation;
 
 pub enum Setter {
