@@ -97,6 +97,9 @@ module _ (s : List ℕ) (n : ℕ) {number : ℕ} (p : n ≡ entriesOf s) (q : nu
       let v : r ≡ firstRefusal (entriesOf s) (refusalAt s) = h ∙ rw p refl in
       rw (← w, ← v) (none-then number r z)
 
+pub check-size : (s : List ℕ) → checkOf s ≡ 0 → Sized s
+check-size s h = sized s (then-zero (sizeRefusal (length s) (entriesOf s)) (firstRefusal (entriesOf s) (refusalAt s)) h .0)
+
 -- what an accepted lookup tells
 pub record Found (s : List ℕ) (e : ℕ) : Type 0 where
   pub sheet : checkOf s ≡ 0
@@ -108,7 +111,7 @@ found s e h =
     let p = then-zero (checkOf s) (entryNumberRefusal (entriesOf s) e) h in
     record {
       sheet = p .0;
-      size = sized s (then-zero (sizeRefusal (length s) (entriesOf s)) (firstRefusal (entriesOf s) (refusalAt s)) (p .0) .0);
+      size = check-size s (p .0);
       entry = ltb-true e (entriesOf s) (first (ltb e (entriesOf s)) 5 five (p .1));
     }
 
