@@ -30,7 +30,7 @@ module _ (s : List ℕ) {number : ℕ} (p : number ≡ checkOf s) where
       record { most = omega arith; long = omega arith }
 
   pub a-reading : (n : ℕ) {kinds settings : List ℕ} → number ≡ 0 → n ≡ entriesOf s
-      → kinds ≡ over (take (2 + n - 2) (drop 2 s)) (zeros 64) → settings ≡ over (take (length s - (2 + n)) (drop (2 + n) s)) (zeros 768)
+      → kinds ≡ over 0 (take (2 + n - 2) (drop 2 s)) (zeros 64) → settings ≡ over 0 (take (length s - (2 + n)) (drop (2 + n) s)) (zeros 768)
       → _≡_ {A = Reading} (record { number = 0; library = record { n = n; kinds = kinds; settings = settings } }) (readOf s)
   a-reading n {kinds} {settings} z q x y =
       let a : 2 + n - 2 ≡ n = omega arith in

@@ -1,5 +1,5 @@
 -- A library: a sheet's entries, held by value.
-use Prim.Native.Nat.{ℕ, _+_, _*_, _%_, _/_}
+use Prim.Native.Nat.{ℕ, zero, suc, _+_, _*_, _%_, _/_}
 use mathlib.Core.Bool.{cond}
 use mathlib.Core.List.{List, [], _∷_, _++_}
 use lib.Dec.{eqb, ltb}
@@ -13,11 +13,13 @@ use Rattle.library.specs.declared.Reading.{Reading}
 use Rattle.library.specs.declared.Written.{Written}
 use Rattle.library.specs.declared.entry.Entry.{Entry}
 
--- xs written from the start of ys on: later places keep their contents
-unfoldable pub over : List ℕ → List ℕ → List ℕ
-over [] ys = ys
-over (x ∷ xs) [] = []
-over (x ∷ xs) (y ∷ ys) = x ∷ over xs ys
+-- xs written over ys from the place `at` on: places before and after keep their contents
+unfoldable pub over : ℕ → List ℕ → List ℕ → List ℕ
+over (suc at) xs [] = []
+over (suc at) xs (y ∷ ys) = y ∷ over at xs ys
+over zero [] ys = ys
+over zero (x ∷ xs) [] = []
+over zero (x ∷ xs) (y ∷ ys) = x ∷ over 0 xs ys
 
 abbrev pub zeros : ℕ → List ℕ
 zeros m = replicate m 0
@@ -29,7 +31,7 @@ none = record { n = 0; kinds = zeros 64; settings = zeros 768 }
 
 -- the library of a sheet: its kind bytes and its settings, each with zeros behind
 abbrev pub libraryOf : List ℕ → Library
-libraryOf s = record { n = entriesOf s; kinds = over (take (entriesOf s) (drop 2 s)) (zeros 64); settings = over (drop (2 + entriesOf s) s) (zeros 768) }
+libraryOf s = record { n = entriesOf s; kinds = over 0 (take (entriesOf s) (drop 2 s)) (zeros 64); settings = over 0 (drop (2 + entriesOf s) s) (zeros 768) }
 
 -- what is no sheet has no library
 abbrev pub readOf : List ℕ → Reading
@@ -62,4 +64,4 @@ writeOf l out = record { number = writeRefusal (l .n) (length out); length = wri
 
 -- the output after a write: so many bytes of the sheet, and what stood behind them
 abbrev pub writtenOf : Library → List ℕ → List ℕ
-writtenOf l out = over (take (writtenLength (writeRefusal (l .n) (length out)) (l .n)) (bytesOf l)) out
+writtenOf l out = over 0 (take (writtenLength (writeRefusal (l .n) (length out)) (l .n)) (bytesOf l)) out

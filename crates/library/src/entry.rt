@@ -2,7 +2,6 @@
 
 ghost use mathlib.Core.Path.{_≡_};
 ghost use Rattle.library.specs.Entry.{entryFor, entryOf};
-
 use filter_core::FrequencyApproximation;
 use sheets::Setter;
 

@@ -4,10 +4,10 @@ use Rattle.library.proofs.copy.Statement.{statement}
 use Rattle.library.proofs.copy.Tie as tie
 
 abbrev Inv-loop : tie.InvT-loop
-Inv-loop source output₀ n i₀ output i = Copied source output₀ n i output
+Inv-loop source output₀ at n i₀ output i = Copied at source output₀ n i output
 
 abbrev μ-loop : tie.MeasureT-loop
-μ-loop source output₀ n i₀ output i = n - i
+μ-loop source output₀ at n i₀ output i = n - i
 
 pub copy-spec : {M : Type 1} → statement M
 copy-spec =
@@ -15,7 +15,9 @@ copy-spec =
     (tie.spec
     Inv-loop
     μ-loop
+    (λ c. search copying)
     (λ c κs. search copying)
+    (λ c. search copying)
     (λ c. search copying)
     (λ c. search copying)
     (λ c. search copying)
