@@ -1,2 +1,3 @@
 pub mod KindBytes
 pub mod Checks
+pub mod Rows

@@ -1,3 +1,4 @@
 pub mod Kind
 pub mod Refusal
 pub mod Sheet
+pub mod Rows

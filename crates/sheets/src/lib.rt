@@ -8,3 +8,15 @@ pub use refusal::entries;
 pub use refusal::lookup;
 pub use setter::Setter;
 pub use setter::setter_of;
+
+ghost use Rattle.sheets.specs.Rows.{CheckByRows, WordsReturn};
+
+// `check` and `check_entry` answer each number in its row's case of the refusal table, and in no other.
+pub fn check_by_rows()
+    ensures { λ _. ⌜ CheckByRows ⌝ }
+{}
+
+// Every word of a sheet comes back when converted to binary32 and back.
+pub fn words_return()
+    ensures { λ _. ⌜ WordsReturn ⌝ }
+{}
