@@ -1,0 +1,4 @@
+pub mod Copies
+pub mod Readings
+pub mod Writings
+pub mod Entries

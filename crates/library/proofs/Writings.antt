@@ -1,0 +1,103 @@
+-- Writing a library. Assumes nothing.
+use Prim.Native.Nat.{ℕ, zero, suc, _+_, _*_, _-_, _%_, _/_, _≤_, _<_}
+use mathlib.Core.Path.{_≡_, refl, sym, ap, _∙_}
+use mathlib.Core.Bool.{Bool, true, false}
+use mathlib.Core.List.{List, [], _∷_, _++_, map}
+use native.Mathlib.Omega.{arith}
+use borrow.Author.Needs.{needs, length-unmapped}
+use borrow.Author.Tests.{ltb-false, eqb-true}
+use lib.Dec.{eqb, ltb}
+use lib.ListN.{length, getD, set, take, drop, length-append, length-replicate}
+use lib.Seq.{length-take-le}
+use Rattle.library.specs.Library.{over, zeros, bytesOf, writeRefusal, writtenLength, writeOf, writtenOf}
+use Rattle.library.specs.declared.Library.{Library}
+use Rattle.library.specs.declared.Written.{Written}
+use Rattle.library.proofs.Copies.{over-append}
+
+-- the arrays have room for as many as 64 entries
+module _ (l : List ℕ) (n : ℕ) (h : n ≤ 64) where
+  pub kinds-room : length (map (λ (v : ℕ). v) l) ≡ 64 → n ≤ length l
+  kinds-room e = let w = length-unmapped ℕ l 64 e in omega arith
+
+  pub kinds-count : length (map (λ (v : ℕ). v) l) ≡ 64 → n ≡ length (take n l)
+  kinds-count e = sym (length-take-le n l (kinds-room e))
+
+  pub settings-room : length (map (λ (v : ℕ). v) l) ≡ 768 → 12 * n ≤ length l
+  settings-room e = let w = length-unmapped ℕ l 768 e in omega arith
+
+  pub settings-count : length (map (λ (v : ℕ). v) l) ≡ 768 → 12 * n ≡ length (take (12 * n) l)
+  settings-count e = sym (length-take-le (12 * n) l (settings-room e))
+
+two : (a b : ℕ) (ys : List ℕ) → set (set ys 0 a) 1 b ≡ over 0 (a ∷ b ∷ []) ys
+unfolding over
+two a b [] = refl
+two a b (y ∷ []) = refl
+two a b (y ∷ (z ∷ ys)) = refl
+
+-- the sheet of a library, as it is put together
+pub put-together : (l : Library) (ys : List ℕ) {a b : ℕ} {x y : List ℕ} → length (map (λ (v : ℕ). v) (l .kinds)) ≡ 64 → l .n ≤ 64
+    → a ≡ l .n % 256 → b ≡ l .n / 256 % 256 → x ≡ over 2 (take (l .n) (l .kinds)) (set (set ys 0 a) 1 b)
+    → y ≡ over (2 + l .n) (take (12 * l .n) (l .settings)) x → y ≡ over 0 (bytesOf l) ys
+put-together l ys {a} {b} {x} {y} k h p q e f =
+    let n = l .n in
+    let K = take n (l .kinds) in
+    let w : b ≡ n / 256 = q ∙ omega arith in
+    let c = kinds-count (l .kinds) n h k in
+    let head : x ≡ over 0 (a ∷ b ∷ K) ys = e ∙ ap (over 2 K) (two a b ys) ∙ over-append 0 (a ∷ b ∷ []) K ys in
+    let place : 2 + n ≡ 0 + length (a ∷ b ∷ K) = omega arith in
+    f ∙ rw (place, head) (over-append 0 (a ∷ b ∷ K) (take (12 * n) (l .settings)) ys ∙ rw (p, w) refl)
+
+-- ---- what is written of it
+
+two-is : _≡_ {A = ℕ} 2 0 → ⊥
+two-is z = omega arith
+
+pub few : (n room : ℕ) {number : ℕ} → number ≡ writeRefusal n room → number ≡ 0 → n ≤ 64
+few n room e z = go (ltb n 1) (ltb 64 n) refl refl (sym e ∙ z)
+  where
+    go : (a b : Bool) → ltb n 1 ≡ a → ltb 64 n ≡ b → writeRefusal n room ≡ 0 → n ≤ 64
+    go true b p q h = absurd (two-is (rw p at h))
+    go false true p q h = absurd (two-is (rw (p, q) at h))
+    go false false p q h = ltb-false 64 n q
+
+pub part-count : (l : List ℕ) (k : ℕ) → length l ≡ 834 → k ≤ 834 → k ≡ length (take k l)
+part-count l k e h = sym (length-take-le k l (omega arith))
+
+over-front : (k : ℕ) (xs ys : List ℕ) → k ≤ length xs → k ≤ length ys → take k (over 0 xs ys) ≡ take k xs
+unfolding over
+over-front zero xs ys h l = refl
+over-front (suc k) [] ys h l = absurd (omega arith)
+over-front (suc k) (x ∷ xs) [] h l = absurd (omega arith)
+over-front (suc k) (x ∷ xs) (y ∷ ys) h l = ap (λ (z : List ℕ). x ∷ z) (over-front k xs ys (omega arith) (omega arith))
+
+pub length-bytes : (l : Library) → length (l .kinds) ≡ 64 → length (l .settings) ≡ 768 → l .n ≤ 64 → length (bytesOf l) ≡ 2 + 13 * l .n
+length-bytes l k s h =
+    let a = length-append (l .n % 256 ∷ l .n / 256 ∷ take (l .n) (l .kinds)) (take (12 * l .n) (l .settings)) in
+    let b = length-take-le (l .n) (l .kinds) (omega arith) in
+    let c = length-take-le (12 * l .n) (l .settings) (omega arith) in
+    omega arith
+
+module _ (l : Library) (k : length (map (λ (v : ℕ). v) (l .kinds)) ≡ 64) (s : length (map (λ (v : ℕ). v) (l .settings)) ≡ 768) where
+  -- a write with the number r, of m places, puts into the output the first m bytes that were put together
+  pub written : (out : List ℕ) {r m : ℕ} {ys zs : List ℕ} → r ≡ writeRefusal (l .n) (length out) → m ≡ writtenLength r (l .n)
+      → (l .n ≤ 64 → ys ≡ over 0 (bytesOf l) (zeros 834)) → zs ≡ over 0 (take m ys) out → zs ≡ writtenOf l out
+  written out {r} {m} {ys} {zs} p q b e = go (eqb r 0) refl
+    where
+      n : ℕ
+      n = l .n
+
+      go : (t : Bool) → eqb r 0 ≡ t → zs ≡ writtenOf l out
+      go true t =
+          let h : n ≤ 64 = few n (length out) p (eqb-true r 0 t) in
+          let w : m ≡ 2 + 13 * n = q ∙ rw t refl in
+          let a : 2 + 13 * n ≤ length (bytesOf l) = omega (arith, length-bytes l (length-unmapped ℕ (l .kinds) 64 k) (length-unmapped ℕ (l .settings) 768 s) h) in
+          let f : take (2 + 13 * n) (over 0 (bytesOf l) (zeros 834)) ≡ take (2 + 13 * n) (bytesOf l) =
+          over-front (2 + 13 * n) (bytesOf l) (zeros 834) a (omega (arith, length-replicate {A = ℕ} 834 0)) in
+          e ∙ rw (w, b h, f, ← p, t) refl
+      go false t = let w : m ≡ 0 = q ∙ rw t refl in e ∙ rw (w, ← p, t) refl
+
+pub write-answer : (l : Library) (out : List ℕ) {r m : ℕ} → r ≡ writeRefusal (l .n) (length out) → m ≡ writtenLength r (l .n)
+    → _≡_ {A = Written} (record { number = r; length = m }) (writeOf l out)
+write-answer l out {r} {m} p q = rw (q, p) refl
+
+pub ruleset writings = (kinds-room, kinds-count, settings-room, settings-count, few, part-count, written, write-answer, needs)

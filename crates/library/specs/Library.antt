@@ -1,0 +1,67 @@
+-- A library: a sheet's entries, held by value.
+use Prim.Native.Nat.{ℕ, zero, suc, _+_, _*_, _%_, _/_}
+use mathlib.Core.Bool.{cond}
+use mathlib.Core.List.{List, [], _∷_, _++_}
+use lib.Dec.{eqb, ltb}
+use lib.ListN.{length, getD, take, drop, replicate}
+use Rattle.words.specs.Word.{wordFrom}
+use Rattle.sheets.specs.Refusal.{_then_}
+use Rattle.sheets.specs.Sheet.{entriesOf, checkOf}
+use Rattle.library.specs.Entry.{entryOf}
+use Rattle.library.specs.declared.Library.{Library}
+use Rattle.library.specs.declared.Reading.{Reading}
+use Rattle.library.specs.declared.Written.{Written}
+use Rattle.library.specs.declared.entry.Entry.{Entry}
+
+-- xs written over ys from the place `at` on: places before and after keep their contents
+unfoldable pub over : ℕ → List ℕ → List ℕ → List ℕ
+over (suc at) xs [] = []
+over (suc at) xs (y ∷ ys) = y ∷ over at xs ys
+over zero [] ys = ys
+over zero (x ∷ xs) [] = []
+over zero (x ∷ xs) (y ∷ ys) = x ∷ over 0 xs ys
+
+abbrev pub zeros : ℕ → List ℕ
+zeros m = replicate m 0
+
+-- ---- reading
+
+abbrev pub none : Library
+none = record { n = 0; kinds = zeros 64; settings = zeros 768 }
+
+-- the library of a sheet: its kind bytes and its settings, each with zeros behind
+abbrev pub libraryOf : List ℕ → Library
+libraryOf s = record { n = entriesOf s; kinds = over 0 (take (entriesOf s) (drop 2 s)) (zeros 64); settings = over 0 (drop (2 + entriesOf s) s) (zeros 768) }
+
+-- what is no sheet has no library
+abbrev pub readOf : List ℕ → Reading
+readOf s = record { number = checkOf s; library = cond (eqb (checkOf s) 0) (libraryOf s) none }
+
+-- ---- an entry of a library; 0 past the last place
+
+abbrev pub settingIn : Library → ℕ → List ℕ
+settingIn l e = take 12 (drop (12 * e) (l .settings))
+
+abbrev pub entryAt : Library → ℕ → Entry
+entryAt l e = entryOf (getD (l .kinds) e 0) (wordFrom (settingIn l e) 0) (wordFrom (settingIn l e) 4) (wordFrom (settingIn l e) 8)
+
+-- ---- writing
+
+-- the sheet of a library
+abbrev pub bytesOf : Library → List ℕ
+bytesOf l = (l .n % 256 ∷ l .n / 256 ∷ take (l .n) (l .kinds)) ++ take (12 * l .n) (l .settings)
+
+-- `size`, then `short` of the refusal table, for an output of m places; no library of a sheet has more than 64 entries
+abbrev pub writeRefusal : ℕ → ℕ → ℕ
+writeRefusal n m = cond (ltb n 1) 2 (cond (ltb 64 n) 2 (cond (ltb m (2 + 13 * n)) 12 0))
+
+-- a refused write has the length 0
+abbrev pub writtenLength : ℕ → ℕ → ℕ
+writtenLength number n = cond (eqb number 0) (2 + 13 * n) 0
+
+abbrev pub writeOf : Library → List ℕ → Written
+writeOf l out = record { number = writeRefusal (l .n) (length out); length = writtenLength (writeRefusal (l .n) (length out)) (l .n) }
+
+-- the output after a write: so many bytes of the sheet, and what stood behind them
+abbrev pub writtenOf : Library → List ℕ → List ℕ
+writtenOf l out = over 0 (take (writtenLength (writeRefusal (l .n) (length out)) (l .n)) (bytesOf l)) out

@@ -1,0 +1,153 @@
+// A library: a sheet's entries, held by value.
+mod entry;
+
+pub use entry::Entry;
+pub use entry::entry_of;
+ghost use mathlib.Core.Path.{_≡_};
+ghost use Prim.Native.Nat.{_%_, _≤_};
+ghost use lib.ListN.{length};
+ghost use Rattle.library.specs.Library.{over, zeros, none, readOf, bytesOf, writeRefusal, writtenLength, writeOf, writtenOf, entryAt};
+
+// The places of `kinds` and `settings` past the n entries are zeros, so a library is one value.
+pub struct Library {
+    pub n: usize,
+    pub kinds: [u8; 64],
+    pub settings: [u8; 768],
+}
+
+pub struct Reading {
+    pub number: u8,
+    pub library: Library,
+}
+
+pub struct Written {
+    pub number: u8,
+    pub length: usize,
+}
+
+// The library of a frame that has opened no sheet.
+pub fn none() -> Library
+    ensures { λ r. ⌜ r ≡ none ⌝ }
+{
+    Library {
+        n: 0,
+        kinds: [0u8; 64],
+        settings: [0u8; 768],
+    }
+}
+
+// The source into the output from the place `at` on, as far as both go.
+fn copy(source: &[u8], output: &mut [u8], at: usize)
+    requires { ⌜ at ≤ length (now output) ⌝ }
+    ensures { λ _. ⌜ now (output .exit) ≡ over at (now (source .entry)) (now (output .entry)) ⌝ }
+{
+    let n = filter_core::shortest(source.len(), output.len() - at);
+    let mut i = 0;
+    while i < n {
+        output[at + i] = source[i];
+        i += 1;
+    }
+}
+
+// The sheet's library, with the number 0; or the number that refuses it, with no library.
+pub fn read(sheet: &[u8]) -> Reading
+    ensures { λ r. ⌜ r ≡ readOf (now (sheet .entry)) ⌝ }
+{
+    let number = sheets::check(sheet);
+    if number != 0 {
+        return Reading {
+            number: number,
+            library: none(),
+        };
+    }
+    let n = sheets::entries(sheet);
+    let end = 2 + n;
+    let mut kinds = [0u8; 64];
+    copy(&sheet[2..end], &mut kinds, 0);
+    let mut settings = [0u8; 768];
+    copy(&sheet[end..], &mut settings, 0);
+    Reading {
+        number: 0,
+        library: Library {
+            n: n,
+            kinds: kinds,
+            settings: settings,
+        },
+    }
+}
+
+fn write_refusal(n: usize, room: usize) -> u8
+    ensures { λ r. ⌜ r ≡ writeRefusal n room ⌝ }
+{
+    if n < 1 {
+        return 2;
+    }
+    if 64 < n {
+        return 2;
+    }
+    if room < 2 + 13 * n { 12 } else { 0 }
+}
+
+fn written_length(number: u8, n: usize) -> usize
+    requires { ⌜ (number ≡ 0 → n ≤ 64) ⌝ }
+    ensures { λ r. ⌜ r ≡ writtenLength number n ⌝ }
+    ensures { λ r. ⌜ r ≤ 834 ⌝ }
+{
+    if number == 0 { 2 + 13 * n } else { 0 }
+}
+
+fn low_byte(n: usize) -> u8
+    ensures { λ r. ⌜ r ≡ n % 256 ⌝ }
+{
+    (n % 256) as u8
+}
+
+// The sheet of a library, in an array that holds the longest; none for more than 64 entries, which no sheet has.
+fn sheet_of(library: Library) -> [u8; 834]
+    ensures { λ r. ⌜ (library .n ≤ 64 → r ≡ over 0 (bytesOf library) (zeros 834)) ⌝ }
+{
+    let mut bytes = [0u8; 834];
+    let n = library.n;
+    if 64 < n {
+        return bytes;
+    }
+    bytes[0] = low_byte(n);
+    bytes[1] = low_byte(n / 256);
+    let kinds = library.kinds;
+    copy(&kinds[..n], &mut bytes, 2);
+    let settings = library.settings;
+    copy(&settings[..12 * n], &mut bytes, 2 + n);
+    bytes
+}
+
+// A refused write has the length 0, so it copies nothing.
+pub fn write(library: Library, output: &mut [u8]) -> Written
+    ensures { λ r. ⌜ r ≡ writeOf library (now (output .entry)) ⌝ }
+    ensures { λ _. ⌜ now (output .exit) ≡ writtenOf library (now (output .entry)) ⌝ }
+{
+    let number = write_refusal(library.n, output.len());
+    let length = written_length(number, library.n);
+    let bytes = sheet_of(library);
+    copy(&bytes[..length], output, 0);
+    Written {
+        number: number,
+        length: length,
+    }
+}
+
+// Entry e of a library. A place past the last has the kind byte 0 and zeros for words.
+pub fn entry_at(library: Library, e: usize) -> Entry
+    ensures { λ r. ⌜ r ≡ entryAt library e ⌝ }
+{
+    if 63 < e {
+        return entry_of(0, 0, 0, 0);
+    }
+    let kinds = library.kinds;
+    let settings = library.settings;
+    let at = 12 * e;
+    let setting = &settings[at..at + 12];
+    let a = words::word_at(setting, 0);
+    let b = words::word_at(setting, 4);
+    let c = words::word_at(setting, 8);
+    entry_of(kinds[e], a, b, c)
+}

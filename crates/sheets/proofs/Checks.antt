@@ -1,0 +1,157 @@
+-- The check of a sheet: the first refusal of several, and what an accepted size tells. Assumes nothing.
+use Prim.Native.Nat.{ℕ, zero, suc, _+_, _*_, _-_, _≤_, _<_}
+use mathlib.Core.Path.{_≡_, refl, sym, _∙_}
+use mathlib.Core.Bool.{Bool, true, false, cond}
+use mathlib.Core.List.{List, []}
+use native.Mathlib.Numerals.{add-one}
+use native.Mathlib.Omega.{arith}
+use borrow.Author.Needs.{needs}
+use borrow.Author.Tests.{eqb-true, eqb-false, eq-eqb, ne-eqb, ltb-true, ltb-false}
+use lib.Dec.{eqb, ltb}
+use lib.ListN.{length, take, drop}
+use Rattle.words.specs.Word.{wordFrom}
+use Rattle.sheets.specs.Kind.{setterOf}
+use Rattle.sheets.specs.Refusal.{_then_, firstRefusal, refusalOf}
+use Rattle.sheets.specs.Sheet.{entriesOf, Sized, kindAt, settingAt, wordAt, sizeRefusal, refusalAt, checkOf, entryNumberRefusal, checkEntryOf, lookupOf}
+use Rattle.sheets.specs.declared.setter.Setter.{Setter}
+
+-- ---- the first refusal of two, and of many
+
+-- no refusal of two is none of each
+pub then-zero : (a b : ℕ) → (a then b) ≡ 0 → (a ≡ 0) × (b ≡ 0)
+then-zero a b h = go (eqb a 0) refl h
+  where
+    go : (t : Bool) → eqb a 0 ≡ t → cond (eqb a 0) b a ≡ 0 → (a ≡ 0) × (b ≡ 0)
+    go true q h = (eqb-true a 0 q, rw q at h)
+    go false q h = absurd (eqb-false a 0 q (rw q at h))
+
+pub none-then : (a b : ℕ) → a ≡ 0 → b ≡ (a then b)
+none-then a b h = rw (eq-eqb a 0 h) refl
+
+pub some-then : (a b : ℕ) → (a ≡ 0 → ⊥) → a ≡ (a then b)
+some-then a b h = rw (ne-eqb a 0 h) refl
+
+pub first-start : (f : ℕ → ℕ) → firstRefusal 0 f ≡ 0
+unfolding firstRefusal
+first-start f = refl
+
+pub first-again : (f : ℕ → ℕ) (e : ℕ) {r : ℕ} → firstRefusal e f ≡ 0 → r ≡ f e → r ≡ 0 → firstRefusal (e + 1) f ≡ 0
+unfolding firstRefusal
+first-again f e p q z = rw (add-one e, p, ← q) z
+
+pub first-found : (f : ℕ → ℕ) (n e : ℕ) {r : ℕ} → firstRefusal e f ≡ 0 → e < n → r ≡ f e → (r ≡ 0 → ⊥) → r ≡ firstRefusal n f
+unfolding firstRefusal
+first-found f zero e p h q z = absurd (omega arith)
+first-found f (suc n) e {r} p h q z = go (λ l. first-found f n e p l q z) (eqb e n) refl
+  where
+    go : (e < n → r ≡ firstRefusal n f) → (t : Bool) → eqb e n ≡ t → r ≡ firstRefusal (suc n) f
+    go i true t = let w = eqb-true e n t in q ∙ rw (← w, p) refl
+    go i false t = let w = i (omega (arith, eqb-false e n t)) in rw (← w) (some-then r (f n) z)
+
+pub first-none : (f : ℕ → ℕ) (n e : ℕ) → firstRefusal e f ≡ 0 → e ≤ n → n ≤ e → 0 ≡ firstRefusal n f
+first-none f n e p a b = let w : e ≡ n = omega arith in sym (rw w at p)
+
+-- ---- sizes
+
+-- a choice that is 0, the first way of which is not
+second : (b : Bool) (x y : ℕ) → (x ≡ 0 → ⊥) → cond b x y ≡ 0 → (b ≡ false) × (y ≡ 0)
+second true x y d h = absurd (d h)
+second false x y d h = (refl, h)
+
+first : (b : Bool) (x : ℕ) → (x ≡ 0 → ⊥) → cond b 0 x ≡ 0 → b ≡ true
+first true x d h = refl
+first false x d h = absurd (d h)
+
+two : _≡_ {A = ℕ} 2 0 → ⊥
+two z = omega arith
+
+five : _≡_ {A = ℕ} 5 0 → ⊥
+five z = omega arith
+
+pub sized : (s : List ℕ) → sizeRefusal (length s) (entriesOf s) ≡ 0 → Sized s
+sized s h = go (length s) (entriesOf s) refl refl h
+  where
+    go : (l n : ℕ) → length s ≡ l → entriesOf s ≡ n → sizeRefusal l n ≡ 0 → Sized s
+    go l n p q h =
+        let a = second (ltb l 2) 2 _ two h in
+        let b = second (ltb n 1) 2 _ two (a .1) in
+        let c = second (ltb 64 n) 2 _ two (b .1) in
+        let d = eqb-true l (2 + 13 * n) (first (eqb l (2 + 13 * n)) 2 two (c .1)) in
+        record {
+          some = rw q (ltb-false n 1 (b .0));
+          most = rw q (ltb-false 64 n (c .0));
+          long = rw (p, q) d;
+        }
+
+-- the check, by its steps
+module _ (s : List ℕ) (n : ℕ) {number : ℕ} (p : n ≡ entriesOf s) (q : number ≡ sizeRefusal (length s) n) where
+  pub size-refused : (number ≡ 0 → ⊥) → number ≡ checkOf s
+  size-refused z = let w : number ≡ sizeRefusal (length s) (entriesOf s) = q ∙ rw p refl in rw (← w) (some-then number _ z)
+
+  pub size-accepted : number ≡ 0 → Sized s
+  size-accepted z = let w : sizeRefusal (length s) (entriesOf s) ≡ 0 = rw (← p) (sym q ∙ z) in sized s w
+
+  pub checked : {r : ℕ} → number ≡ 0 → r ≡ firstRefusal n (refusalAt s) → r ≡ checkOf s
+  checked {r} z h =
+      let w : number ≡ sizeRefusal (length s) (entriesOf s) = q ∙ rw p refl in
+      let v : r ≡ firstRefusal (entriesOf s) (refusalAt s) = h ∙ rw p refl in
+      rw (← w, ← v) (none-then number r z)
+
+pub check-size : (s : List ℕ) → checkOf s ≡ 0 → Sized s
+check-size s h = sized s (then-zero (sizeRefusal (length s) (entriesOf s)) (firstRefusal (entriesOf s) (refusalAt s)) h .0)
+
+-- what an accepted lookup tells
+pub record Found (s : List ℕ) (e : ℕ) : Type 0 where
+  pub sheet : checkOf s ≡ 0
+  pub size : Sized s
+  pub entry : e < entriesOf s
+
+pub found : (s : List ℕ) (e : ℕ) → checkEntryOf s e ≡ 0 → Found s e
+found s e h =
+    let p = then-zero (checkOf s) (entryNumberRefusal (entriesOf s) e) h in
+    record {
+      sheet = p .0;
+      size = check-size s (p .0);
+      entry = ltb-true e (entriesOf s) (first (ltb e (entriesOf s)) 5 five (p .1));
+    }
+
+-- the twelve bytes from a place on, as the code takes them
+abbrev part : List ℕ → ℕ → List ℕ
+part s at = take (at + 12 - at) (drop at s)
+
+pub twelve : (at : ℕ) (s : List ℕ) → part s at ≡ take 12 (drop at s)
+twelve at s = let e : at + 12 - at ≡ 12 = omega arith in rw e refl
+
+-- where a found setting lies
+pub record Placed (s : List ℕ) (n e : ℕ) : Type 0 where
+  pub entries : n ≤ 64
+  pub entry : e < 64
+  pub inside : 2 + n + 12 * e + 12 ≤ length s
+
+module _ (s : List ℕ) (e : ℕ) {number : ℕ} (p : number ≡ checkEntryOf s e) where
+  pub no-part : (number ≡ 0 → ⊥) → [] ≡ lookupOf s e
+  no-part z = rw (← p, ne-eqb number 0 z) refl
+
+  pub placed : (n : ℕ) → number ≡ 0 → n ≡ entriesOf s → Placed s n e
+  placed n z q =
+      let f = found s e (sym p ∙ z) in
+      let a = f .size .most in
+      let b = f .size .long in
+      let d = f .entry in
+      record { entries = omega arith; entry = omega arith; inside = omega arith }
+
+  pub the-part : (n : ℕ) → number ≡ 0 → n ≡ entriesOf s → part s (2 + n + 12 * e) ≡ lookupOf s e
+  the-part n z q = rw (← p, eq-eqb number 0 z, twelve, q) refl
+
+-- the refusal of an entry, from its bytes
+pub refused-at : (s : List ℕ) (n e : ℕ) {k a b c r : ℕ} {setter : Setter} → n ≡ entriesOf s → k ≡ kindAt s e → setter ≡ setterOf k
+    → a ≡ wordFrom (part s (2 + n + 12 * e)) 0 → b ≡ wordFrom (part s (2 + n + 12 * e)) 4 → c ≡ wordFrom (part s (2 + n + 12 * e)) 8
+    → r ≡ refusalOf setter a b c → r ≡ refusalAt s e
+refused-at s n e {k} {a} {b} {c} p q g x y z h =
+    let t = twelve (2 + n + 12 * e) s in
+    let x′ : a ≡ wordAt s e 0 = x ∙ rw (t, p) refl in
+    let y′ : b ≡ wordAt s e 1 = y ∙ rw (t, p) refl in
+    let z′ : c ≡ wordAt s e 2 = z ∙ rw (t, p) refl in
+    h ∙ rw (g, q, x′, y′, z′) refl
+
+pub ruleset checks = (none-then, some-then, first-start, first-again, first-found, first-none, size-refused, size-accepted, checked, no-part, the-part, refused-at, needs)

@@ -1,0 +1,3 @@
+pub mod KindBytes
+pub mod Checks
+pub mod Rows

@@ -1,0 +1,27 @@
+use mathlib.Core.Path.{_≡_}
+use Prim.Native.Nat.{_≤_, _-_}
+use Rattle.sheets.specs.Refusal.{firstRefusal}
+use Rattle.sheets.specs.Sheet.{refusalAt}
+use Rattle.sheets.proofs.Checks.{checks}
+use Rattle.sheets.proofs.refusal.entries_refusal.Statement.{statement}
+use Rattle.sheets.proofs.refusal.entries_refusal.Tie as tie
+
+abbrev Inv-loop : tie.InvT-loop
+Inv-loop sheet n e₀ e = (e ≤ n) × (firstRefusal e (refusalAt sheet) ≡ 0)
+
+abbrev μ-loop : tie.MeasureT-loop
+μ-loop sheet n e₀ e = n - e
+
+pub entries-refusal-spec : {M : Type 1} → statement M
+entries-refusal-spec =
+    tie.close
+    (tie.spec
+    Inv-loop
+    μ-loop
+    (λ c. search checks)
+    (λ c κs. search checks)
+    (λ c. search checks)
+    (λ c. search checks)
+    (λ c. search checks)
+    (λ c. search checks)
+    (λ c. search checks))

@@ -1,0 +1,4 @@
+pub mod Kind
+pub mod Refusal
+pub mod Sheet
+pub mod Rows

@@ -1,0 +1,53 @@
+-- The number that an entry is refused with: `kind` 3, then `word` 4, then `frequency` 11 of the refusal table; 0 where it is not.
+use Prim.Native.Nat.{ℕ, zero, suc}
+use mathlib.Core.Bool.{cond}
+use lib.Dec.{eqb, ltb}
+use Rattle.filter_core.specs.Arithmetic.{word}
+use Rattle.filter_core.specs.Refusal.{frequencyRefusal}
+use Rattle.words.specs.Word.{otherNan}
+use Rattle.sheets.specs.Kind.{setterOf, kindRefusal}
+use Rattle.sheets.specs.declared.setter.Setter.{Setter}
+use Rattle.sheets.specs.declared.setter.Setter.the-variants.{DcBlocker, OnePole, SvfFrequency, SvfCoefficients, NaiveSvf, ModifiedSvf, CrossoverSvf, Unknown}
+
+-- the first refusal of two
+infixr 20 _then_
+abbrev pub _then_ : ℕ → ℕ → ℕ
+_then_ a b = cond (eqb a 0) b a
+
+-- the first refusal of f 0, f 1, .., f (n - 1)
+unfoldable pub firstRefusal : ℕ → (ℕ → ℕ) → ℕ
+firstRefusal zero f = 0
+firstRefusal (suc n) f = firstRefusal n f then f n
+
+-- how many of the words a, b, c a setter uses
+abbrev pub used : Setter → ℕ
+used DcBlocker = 1
+used (OnePole p) = 1
+used (SvfFrequency p) = 2
+used SvfCoefficients = 3
+used (NaiveSvf p) = 2
+used ModifiedSvf = 2
+used CrossoverSvf = 2
+used Unknown = 0
+
+-- the word at the place k (a 0, b 1, c 2) of a setter that uses the first u: another NaN, or unused and not zero
+abbrev pub wordRefusal : ℕ → ℕ → ℕ → ℕ
+wordRefusal u k w = cond (ltb k u) (cond (otherNan w) 4 0) (cond (eqb w 0) 0 4)
+
+-- Exact with f below 0, where a is an f
+abbrev pub settingRefusal : Setter → ℕ → ℕ
+settingRefusal DcBlocker a = 0
+settingRefusal (OnePole p) a = frequencyRefusal (word a) p
+settingRefusal (SvfFrequency p) a = frequencyRefusal (word a) p
+settingRefusal SvfCoefficients a = 0
+settingRefusal (NaiveSvf p) a = frequencyRefusal (word a) p
+settingRefusal ModifiedSvf a = 0
+settingRefusal CrossoverSvf a = 0
+settingRefusal Unknown a = 0
+
+abbrev pub refusalOf : Setter → ℕ → ℕ → ℕ → ℕ
+refusalOf s a b c = kindRefusal s then wordRefusal (used s) 0 a then wordRefusal (used s) 1 b then wordRefusal (used s) 2 c then settingRefusal s a
+
+-- an entry of the kind byte k and the words a, b, c
+abbrev pub entryRefusal : ℕ → ℕ → ℕ → ℕ → ℕ
+entryRefusal k a b c = refusalOf (setterOf k) a b c

@@ -1,0 +1,22 @@
+// Motif sheets: what a sheet's bytes say, and which number refuses them.
+mod refusal;
+mod setter;
+
+pub use refusal::check;
+pub use refusal::check_entry;
+pub use refusal::entries;
+pub use refusal::lookup;
+pub use setter::Setter;
+pub use setter::setter_of;
+
+ghost use Rattle.sheets.specs.Rows.{CheckByRows, WordsReturn};
+
+// `check` and `check_entry` answer each number in its row's case of the refusal table, and in no other.
+pub fn check_by_rows()
+    ensures { λ _. ⌜ CheckByRows ⌝ }
+{}
+
+// Every word of a sheet comes back when converted to binary32 and back.
+pub fn words_return()
+    ensures { λ _. ⌜ WordsReturn ⌝ }
+{}

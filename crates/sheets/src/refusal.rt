@@ -1,0 +1,190 @@
+// The check of a sheet: its size, then entry by entry, each entry's kind, words and frequency, in that order.
+
+ghost use mathlib.Core.Path.{_≡_};
+ghost use Prim.Native.Nat.{_+_, _*_, _≤_, _<_};
+ghost use lib.ListN.{length};
+ghost use Rattle.filter_core.specs.Arithmetic.{word};
+ghost use Rattle.filter_core.specs.Refusal.{frequencyRefusal};
+ghost use Rattle.sheets.specs.Kind.{kindRefusal};
+ghost use Rattle.sheets.specs.Refusal.{_then_, firstRefusal, used, wordRefusal, settingRefusal, refusalOf};
+ghost use Rattle.sheets.specs.Sheet.{entriesOf, Sized, sizeRefusal, refusalAt, checkOf, entryNumberRefusal, checkEntryOf, lookupOf};
+use crate::setter::Setter;
+use crate::setter::setter_of;
+use filter_core::FrequencyApproximation;
+
+// The first refusal of two; 0 is none.
+fn then(a: u8, b: u8) -> u8
+    ensures { λ r. ⌜ r ≡ (a then b) ⌝ }
+{
+    if a == 0 { b } else { a }
+}
+
+fn kind_refusal(setter: Setter) -> u8
+    ensures { λ r. ⌜ r ≡ kindRefusal setter ⌝ }
+{
+    match setter {
+        Setter::DcBlocker => 0,
+        Setter::OnePole(_) => 0,
+        Setter::SvfFrequency(_) => 0,
+        Setter::SvfCoefficients => 0,
+        Setter::NaiveSvf(_) => 0,
+        Setter::ModifiedSvf => 0,
+        Setter::CrossoverSvf => 0,
+        Setter::Unknown => 3,
+    }
+}
+
+fn words_used(setter: Setter) -> u8
+    ensures { λ r. ⌜ r ≡ used setter ⌝ }
+{
+    match setter {
+        Setter::DcBlocker => 1,
+        Setter::OnePole(_) => 1,
+        Setter::SvfFrequency(_) => 2,
+        Setter::SvfCoefficients => 3,
+        Setter::NaiveSvf(_) => 2,
+        Setter::ModifiedSvf => 2,
+        Setter::CrossoverSvf => 2,
+        Setter::Unknown => 0,
+    }
+}
+
+fn word_refusal(used: u8, k: u8, w: u32) -> u8
+    ensures { λ r. ⌜ r ≡ wordRefusal used k w ⌝ }
+{
+    if k < used {
+        if words::other_nan(w) { 4 } else { 0 }
+    } else {
+        if w == 0 { 0 } else { 4 }
+    }
+}
+
+fn frequency_refusal(a: u32, approximation: FrequencyApproximation) -> u8
+    ensures { λ r. ⌜ r ≡ frequencyRefusal (word a) approximation ⌝ }
+{
+    let f = words::word_to_f32(a);
+    match approximation {
+        FrequencyApproximation::Exact => if f < 0.0 { 11 } else { 0 },
+        FrequencyApproximation::Accurate => 0,
+        FrequencyApproximation::Fast => 0,
+        FrequencyApproximation::Dirty => 0,
+    }
+}
+
+fn setting_refusal(setter: Setter, a: u32) -> u8
+    ensures { λ r. ⌜ r ≡ settingRefusal setter a ⌝ }
+{
+    match setter {
+        Setter::DcBlocker => 0,
+        Setter::OnePole(p) => frequency_refusal(a, p),
+        Setter::SvfFrequency(p) => frequency_refusal(a, p),
+        Setter::SvfCoefficients => 0,
+        Setter::NaiveSvf(p) => frequency_refusal(a, p),
+        Setter::ModifiedSvf => 0,
+        Setter::CrossoverSvf => 0,
+        Setter::Unknown => 0,
+    }
+}
+
+fn refusal_of(setter: Setter, a: u32, b: u32, c: u32) -> u8
+    ensures { λ r. ⌜ r ≡ refusalOf setter a b c ⌝ }
+{
+    let used = words_used(setter);
+    let kind = kind_refusal(setter);
+    let first = word_refusal(used, 0, a);
+    let second = word_refusal(used, 1, b);
+    let third = word_refusal(used, 2, c);
+    let setting = setting_refusal(setter, a);
+    then(kind, then(first, then(second, then(third, setting))))
+}
+
+fn wide(b: u8) -> usize
+    ensures { λ r. ⌜ r ≡ b ⌝ }
+{
+    b as usize
+}
+
+// How many entries the first two bytes announce; bytes that are not there count as 0.
+pub fn entries(sheet: &[u8]) -> usize
+    ensures { λ r. ⌜ r ≡ entriesOf (now (sheet .entry)) ⌝ }
+{
+    wide(words::byte_at(sheet, 0, 0)) + 256 * wide(words::byte_at(sheet, 0, 1))
+}
+
+fn size_refusal(length: usize, n: usize) -> u8
+    ensures { λ r. ⌜ r ≡ sizeRefusal length n ⌝ }
+{
+    if length < 2 {
+        return 2;
+    }
+    if n < 1 {
+        return 2;
+    }
+    if 64 < n {
+        return 2;
+    }
+    if length == 2 + 13 * n { 0 } else { 2 }
+}
+
+fn refusal_at(sheet: &[u8], n: usize, e: usize) -> u8
+    requires { ⌜ Sized (now sheet) × (n ≡ entriesOf (now sheet)) × (e < n) ⌝ }
+    ensures { λ r. ⌜ r ≡ refusalAt (now (sheet .entry)) e ⌝ }
+{
+    let at = 2 + n + 12 * e;
+    let setting = &sheet[at..at + 12];
+    let a = words::word_at(setting, 0);
+    let b = words::word_at(setting, 4);
+    let c = words::word_at(setting, 8);
+    refusal_of(setter_of(words::byte_at(sheet, 2, e)), a, b, c)
+}
+
+fn entries_refusal(sheet: &[u8], n: usize) -> u8
+    requires { ⌜ Sized (now sheet) × (n ≡ entriesOf (now sheet)) ⌝ }
+    ensures { λ r. ⌜ r ≡ firstRefusal n (refusalAt (now (sheet .entry))) ⌝ }
+{
+    let mut e = 0;
+    while e < n {
+        let number = refusal_at(sheet, n, e);
+        if number != 0 {
+            return number;
+        }
+        e += 1;
+    }
+    0
+}
+
+// The number that opening the sheet gives, 0 if it is a sheet.
+pub fn check(sheet: &[u8]) -> u8
+    ensures { λ r. ⌜ r ≡ checkOf (now (sheet .entry)) ⌝ }
+{
+    let n = entries(sheet);
+    let number = size_refusal(sheet.len(), n);
+    if number != 0 {
+        return number;
+    }
+    entries_refusal(sheet, n)
+}
+
+fn number_refusal(n: usize, e: usize) -> u8
+    ensures { λ r. ⌜ r ≡ entryNumberRefusal n e ⌝ }
+{
+    if e < n { 0 } else { 5 }
+}
+
+// The number that looking up entry e gives: that of the sheet, then that of e.
+pub fn check_entry(sheet: &[u8], e: usize) -> u8
+    ensures { λ r. ⌜ r ≡ checkEntryOf (now (sheet .entry)) e ⌝ }
+{
+    then(check(sheet), number_refusal(entries(sheet), e))
+}
+
+// The setting of entry e as a part of the sheet; empty where `check_entry` refuses.
+pub fn lookup(sheet: &[u8], e: usize) -> &[u8]
+    ensures { λ r. ⌜ now r ≡ lookupOf (now (sheet .entry)) e ⌝ }
+{
+    if check_entry(sheet, e) != 0 {
+        return &sheet[0..0];
+    }
+    let at = 2 + entries(sheet) + 12 * e;
+    &sheet[at..at + 12]
+}

@@ -1,0 +1,41 @@
+// Which setter an entry's kind byte names, and with which approximation.
+
+ghost use mathlib.Core.Path.{_≡_};
+ghost use Rattle.sheets.specs.Kind.{setterOf};
+use filter_core::FrequencyApproximation;
+
+pub enum Setter {
+    DcBlocker,
+    OnePole(FrequencyApproximation),
+    SvfFrequency(FrequencyApproximation),
+    SvfCoefficients,
+    NaiveSvf(FrequencyApproximation),
+    ModifiedSvf,
+    CrossoverSvf,
+    Unknown,
+}
+
+// A kind byte is kind + 16 * approximation. This table is the one place that knows which of them name a setter.
+pub fn setter_of(kind: u8) -> Setter
+    ensures { λ r. ⌜ r ≡ setterOf kind ⌝ }
+{
+    match kind {
+        1 => Setter::DcBlocker,
+        2 => Setter::OnePole(FrequencyApproximation::Exact),
+        3 => Setter::SvfFrequency(FrequencyApproximation::Exact),
+        4 => Setter::SvfCoefficients,
+        5 => Setter::NaiveSvf(FrequencyApproximation::Exact),
+        6 => Setter::ModifiedSvf,
+        7 => Setter::CrossoverSvf,
+        18 => Setter::OnePole(FrequencyApproximation::Accurate),
+        19 => Setter::SvfFrequency(FrequencyApproximation::Accurate),
+        21 => Setter::NaiveSvf(FrequencyApproximation::Accurate),
+        34 => Setter::OnePole(FrequencyApproximation::Fast),
+        35 => Setter::SvfFrequency(FrequencyApproximation::Fast),
+        37 => Setter::NaiveSvf(FrequencyApproximation::Fast),
+        50 => Setter::OnePole(FrequencyApproximation::Dirty),
+        51 => Setter::SvfFrequency(FrequencyApproximation::Dirty),
+        53 => Setter::NaiveSvf(FrequencyApproximation::Dirty),
+        0 | 8..=17 | 20 | 22..=33 | 36 | 38..=49 | 52 | 54..=255 => Setter::Unknown,
+    }
+}
