@@ -84,7 +84,7 @@ pub struct Ran {
 
 // ---- a filter of each type as a case
 
-fn of_dc(s: DcBlocker) -> Filter
+pub fn of_dc(s: DcBlocker) -> Filter
     ensures { λ r. ⌜ r ≡ ofDc s ⌝ }
 {
     Filter::Dc {
@@ -94,7 +94,7 @@ fn of_dc(s: DcBlocker) -> Filter
     }
 }
 
-fn of_one_pole(s: OnePole) -> Filter
+pub fn of_one_pole(s: OnePole) -> Filter
     ensures { λ r. ⌜ r ≡ ofOnePole s ⌝ }
 {
     Filter::OnePole {
@@ -104,7 +104,7 @@ fn of_one_pole(s: OnePole) -> Filter
     }
 }
 
-fn of_svf(s: Svf) -> Filter
+pub fn of_svf(s: Svf) -> Filter
     ensures { λ r. ⌜ r ≡ ofSvf s ⌝ }
 {
     Filter::Svf {
@@ -116,7 +116,7 @@ fn of_svf(s: Svf) -> Filter
     }
 }
 
-fn of_naive(s: NaiveSvf) -> Filter
+pub fn of_naive(s: NaiveSvf) -> Filter
     ensures { λ r. ⌜ r ≡ ofNaive s ⌝ }
 {
     Filter::Naive {
@@ -127,7 +127,7 @@ fn of_naive(s: NaiveSvf) -> Filter
     }
 }
 
-fn of_modified(s: ModifiedSvf) -> Filter
+pub fn of_modified(s: ModifiedSvf) -> Filter
     ensures { λ r. ⌜ r ≡ ofModified s ⌝ }
 {
     Filter::Modified {
@@ -139,7 +139,7 @@ fn of_modified(s: ModifiedSvf) -> Filter
     }
 }
 
-fn of_crossover(s: CrossoverSvf) -> Filter
+pub fn of_crossover(s: CrossoverSvf) -> Filter
     ensures { λ r. ⌜ r ≡ ofCrossover s ⌝ }
 {
     Filter::Crossover {
