@@ -8,7 +8,6 @@ use naive_svf::NaiveSvf;
 use one_pole::OnePole;
 use runs::Filter;
 use svf::Svf;
-
 ghost use mathlib.Core.Path.{_≡_};
 ghost use Rattle.loads.specs.Load.{filterOf};
 

@@ -5,7 +5,7 @@ use Rattle.loads.proofs.filter_of.Tie as tie
 
 returns : tie.Need-returns
 unfolding filterOf
-returns c = rw (c .before .before .before .before .entry .given .1, c .of-dc .ensures, c .before .init .ensures, c .before .before .new .ensures)
+returns c = rw (c .before .before .before .before .entry .given .1, c .of-dc .ensures, c .before .init .ensures)
 
 returns-2 : tie.Need-returns-2
 unfolding filterOf
