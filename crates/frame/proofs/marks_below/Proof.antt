@@ -1,0 +1,23 @@
+use mathlib.Core.Path.{refl}
+use Rattle.frame.specs.Table.{table}
+use borrow.Author.Needs.{needs}
+use Rattle.frame.proofs.marks_below.Statement.{statement}
+use Rattle.frame.proofs.marks_below.Tie as tie
+
+returns : tie.Need-returns
+unfolding table
+returns c = rw (c .before .before .before .before .before .before .only-if .ensures, c .before .before .before .before .only-if2 .ensures, c .before .before .only-if3 .ensures, c .only-if4 .ensures)
+
+pub marks-below-spec : {M : Type 1} → statement M
+marks-below-spec =
+    tie.close
+    (tie.spec
+    (λ c. search needs)
+    (λ c κs. search needs)
+    (λ c. search needs)
+    (λ c κs. search needs)
+    (λ c. search needs)
+    (λ c κs. search needs)
+    (λ c. search needs)
+    (λ c κs. search needs)
+    returns)
