@@ -217,7 +217,7 @@ module _ (k a b c : ℕ) where
   row-number (is-right t w f) =
       sym (frequency-accepted (setterOf k) a f)
       ∙ step-four (kindRefusal (setterOf k)) (wordRefusal u 0 a) (wordRefusal u 1 b) (wordRefusal u 2 c) (settingRefusal (setterOf k) a) (taken (k % 16) (k / 16) t)
-          (word-accepted u 0 a (w .word-a)) (word-accepted u 1 b (w .word-b)) (word-accepted u 2 c (w .word-c))
+      (word-accepted u 0 a (w .word-a)) (word-accepted u 1 b (w .word-b)) (word-accepted u 2 c (w .word-c))
   row-number (wrong-kind n) =
       step-kind (kindRefusal (setterOf k)) (wordRefusal u 0 a) (wordRefusal u 1 b) (wordRefusal u 2 c) (settingRefusal (setterOf k) a)
       (other (kind-either (setterOf k)) (λ e. n (takes (k % 16) (k / 16) e)))
@@ -228,7 +228,7 @@ module _ (k a b c : ℕ) where
   row-number (wrong-frequency t w n) =
       sym (other (setting-either (setterOf k) a) (λ e. n (frequency-right (setterOf k) a e)))
       ∙ step-four (kindRefusal (setterOf k)) (wordRefusal u 0 a) (wordRefusal u 1 b) (wordRefusal u 2 c) (settingRefusal (setterOf k) a) (taken (k % 16) (k / 16) t)
-          (word-accepted u 0 a (w .word-a)) (word-accepted u 1 b (w .word-b)) (word-accepted u 2 c (w .word-c))
+      (word-accepted u 0 a (w .word-a)) (word-accepted u 1 b (w .word-b)) (word-accepted u 2 c (w .word-c))
 
   some-row : Numbered (EntryRow k a b c)
   some-row = go (kind-either (setterOf k)) (word-either u 0 a) (word-either u 1 b) (word-either u 2 c) (setting-either (setterOf k) a)

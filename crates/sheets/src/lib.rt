@@ -8,7 +8,6 @@ pub use refusal::entries;
 pub use refusal::lookup;
 pub use setter::Setter;
 pub use setter::setter_of;
-
 ghost use Rattle.sheets.specs.Rows.{CheckByRows, WordsReturn};
 
 // `check` and `check_entry` answer each number in its row's case of the refusal table, and in no other.
