@@ -52,6 +52,14 @@ over-append zero [] zs ys = refl
 over-append zero (x ∷ xs) zs [] = over-nil (0 + suc (length xs)) zs
 over-append zero (x ∷ xs) zs (y ∷ ys) = rw zero-add (ap (λ (l : List ℕ). x ∷ l) (rw zero-add at (over-append 0 xs zs ys)))
 
+-- the front of what was written
+pub over-front : (k : ℕ) (xs ys : List ℕ) → k ≤ length xs → k ≤ length ys → take k (over 0 xs ys) ≡ take k xs
+unfolding over
+over-front zero xs ys h l = refl
+over-front (suc k) [] ys h l = absurd (omega arith)
+over-front (suc k) (x ∷ xs) [] h l = absurd (omega arith)
+over-front (suc k) (x ∷ xs) (y ∷ ys) h l = ap (λ (z : List ℕ). x ∷ z) (over-front k xs ys (omega arith) (omega arith))
+
 over-next : (at : ℕ) (xs ys : List ℕ) (i : ℕ) → i < length xs → at + i < length ys → set (over at (take i xs) ys) (at + i) (getD xs i 0) ≡ over at (take (suc i) xs) ys
 unfolding over
 over-next (suc at) xs [] i h l = absurd (omega arith)

@@ -12,7 +12,7 @@ use lib.Seq.{length-take-le}
 use Rattle.library.specs.Library.{over, zeros, bytesOf, writeRefusal, writtenLength, writeOf, writtenOf}
 use Rattle.library.specs.declared.Library.{Library}
 use Rattle.library.specs.declared.Written.{Written}
-use Rattle.library.proofs.Copies.{over-append}
+use Rattle.library.proofs.Copies.{over-append, over-front}
 
 -- the arrays have room for as many as 64 entries
 module _ (l : List ℕ) (n : ℕ) (h : n ≤ 64) where
@@ -62,13 +62,6 @@ few n room e z = go (ltb n 1) (ltb 64 n) refl refl (sym e ∙ z)
 
 pub part-count : (l : List ℕ) (k : ℕ) → length l ≡ 834 → k ≤ 834 → k ≡ length (take k l)
 part-count l k e h = sym (length-take-le k l (omega arith))
-
-over-front : (k : ℕ) (xs ys : List ℕ) → k ≤ length xs → k ≤ length ys → take k (over 0 xs ys) ≡ take k xs
-unfolding over
-over-front zero xs ys h l = refl
-over-front (suc k) [] ys h l = absurd (omega arith)
-over-front (suc k) (x ∷ xs) [] h l = absurd (omega arith)
-over-front (suc k) (x ∷ xs) (y ∷ ys) h l = ap (λ (z : List ℕ). x ∷ z) (over-front k xs ys (omega arith) (omega arith))
 
 pub length-bytes : (l : Library) → length (l .kinds) ≡ 64 → length (l .settings) ≡ 768 → l .n ≤ 64 → length (bytesOf l) ≡ 2 + 13 * l .n
 length-bytes l k s h =

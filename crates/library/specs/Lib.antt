@@ -1,2 +1,3 @@
 pub mod Entry
 pub mod Library
+pub mod RoundTrip

@@ -7,6 +7,7 @@ ghost use mathlib.Core.Path.{_≡_};
 ghost use Prim.Native.Nat.{_%_, _≤_};
 ghost use lib.ListN.{length};
 ghost use Rattle.library.specs.Library.{over, zeros, none, readOf, bytesOf, writeRefusal, writtenLength, writeOf, writtenOf, entryAt};
+ghost use Rattle.library.specs.RoundTrip.{ReadWrite, WriteRead, OneSheet, SameEntries};
 
 // The places of `kinds` and `settings` past the n entries are zeros, so a library is one value.
 pub struct Library {
@@ -151,3 +152,23 @@ pub fn entry_at(library: Library, e: usize) -> Entry
     let c = words::word_at(setting, 8);
     entry_of(kinds[e], a, b, c)
 }
+
+// Reading a sheet and writing its library gives the sheet's bytes.
+pub fn read_write()
+    ensures { λ _. ⌜ ReadWrite ⌝ }
+{}
+
+// Writing a sheet's library and reading it gives the library.
+pub fn write_read()
+    ensures { λ _. ⌜ WriteRead ⌝ }
+{}
+
+// Two different sheets are never the same library.
+pub fn one_sheet()
+    ensures { λ _. ⌜ OneSheet ⌝ }
+{}
+
+// The library's entries are the sheet's.
+pub fn same_entries()
+    ensures { λ _. ⌜ SameEntries ⌝ }
+{}

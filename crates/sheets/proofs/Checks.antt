@@ -152,6 +152,6 @@ refused-at s n e {k} {a} {b} {c} p q g x y z h =
     let x′ : a ≡ wordAt s e 0 = x ∙ rw (t, p) refl in
     let y′ : b ≡ wordAt s e 1 = y ∙ rw (t, p) refl in
     let z′ : c ≡ wordAt s e 2 = z ∙ rw (t, p) refl in
-    h ∙ rw (g, q, x′, y′, z′) refl
+    h ∙ cc
 
 pub ruleset checks = (none-then, some-then, first-start, first-again, first-found, first-none, size-refused, size-accepted, checked, no-part, the-part, refused-at, needs)

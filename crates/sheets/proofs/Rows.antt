@@ -16,12 +16,12 @@ use Rattle.filter_core.specs.declared.FrequencyApproximation.the-variants.{Exac
 use Rattle.words.specs.Word.{wordFrom, writtenNan, otherNan}
 use Rattle.words.proofs.Words.{nan-test, comes-back}
 use Rattle.sheets.specs.Kind.{approximated, exact, setterFor, setterOf, kindRefusal}
-use Rattle.sheets.specs.Refusal.{_then_, firstRefusal, used, wordRefusal, settingRefusal, entryRefusal}
+use Rattle.sheets.specs.Refusal.{_then_, firstRefusal, used, wordRefusal, wordsRefusal, settingRefusal, entryRefusal}
 use Rattle.sheets.specs.Sheet.{entriesOf, Sized, sizeRefusal, kindAt, settingAt, wordAt, refusalAt, checkOf, entryNumberRefusal, checkEntryOf}
 use Rattle.sheets.specs.Rows.{Takes, KindRight, WordRight, WordsRight, FrequencyRight, EntryRow, is-right, wrong-kind, wrong-word, wrong-frequency, RowAt, Sheet, SheetRow, is-sheet, wrong-size, wrong-entry, LookupRow, is-found, no-sheet, no-entry, Checked, Bytes, WordsReturn}
 use Rattle.sheets.specs.declared.setter.Setter.{Setter}
 use Rattle.sheets.specs.declared.setter.Setter.the-variants.{DcBlocker, OnePole, SvfFrequency, SvfCoefficients, NaiveSvf, ModifiedSvf, CrossoverSvf, Unknown}
-use Rattle.sheets.proofs.Checks.{none-then, some-then, first-start, first-found, sized, check-size}
+use Rattle.sheets.proofs.Checks.{then-zero, none-then, some-then, first-found, sized, check-size}
 
 -- a refusal is none, or its number
 abbrev Either : ℕ → ℕ → Type 0
@@ -126,6 +126,23 @@ module _ (u k w : ℕ) where
       go true false false p r s = rw (p, r, s) refl
       go false c d p r s = rw (p, eq-eqb w 0 (t .unused (ltb-false k u p))) refl
 
+-- the first of three that are each none or 4
+either-then : {a b : ℕ} → Either 4 a → Either 4 b → Either 4 (a then b)
+either-then (inl p) y = rw p y
+either-then (inr p) y = rw p (inr refl)
+
+words-either : (u a b c : ℕ) → Either 4 (wordsRefusal u a b c)
+words-either u a b c = either-then (word-either u 0 a) (either-then (word-either u 1 b) (word-either u 2 c))
+
+words-right : (s : Setter) (a b c : ℕ) → wordsRefusal (used s) a b c ≡ 0 → WordsRight s a b c
+words-right s a b c h =
+    let p = then-zero (wordRefusal (used s) 0 a) (wordRefusal (used s) 1 b then wordRefusal (used s) 2 c) h in
+    let q = then-zero (wordRefusal (used s) 1 b) (wordRefusal (used s) 2 c) (p .1) in
+    record { word-a = word-right (used s) 0 a (p .0); word-b = word-right (used s) 1 b (q .0); word-c = word-right (used s) 2 c (q .1) }
+
+words-accepted : (s : Setter) (a b c : ℕ) → WordsRight s a b c → wordsRefusal (used s) a b c ≡ 0
+words-accepted s a b c w = rw (word-accepted (used s) 0 a (w .word-a), word-accepted (used s) 1 b (w .word-b), word-accepted (used s) 2 c (w .word-c)) refl
+
 -- ---- frequencies
 
 setting-either : (s : Setter) (a : ℕ) → Either 11 (settingRefusal s a)
@@ -181,25 +198,6 @@ frequency-accepted Unknown a t = refl
 
 -- ---- an entry: its row's number is the refusal, and it has a row
 
--- the first of the four steps that refuses decides
-steps : (k x y z f : ℕ) → ℕ
-steps k x y z f = k then x then y then z then f
-
-step-four : (k x y z f : ℕ) → k ≡ 0 → x ≡ 0 → y ≡ 0 → z ≡ 0 → f ≡ steps k x y z f
-unfolding steps
-step-four k x y z f p q r s = rw (p, q, r, s) refl
-
-step-kind : (k x y z f : ℕ) → k ≡ 3 → 3 ≡ steps k x y z f
-unfolding steps
-step-kind k x y z f p = rw p refl
-
-step-word : (k x y z f : ℕ) → k ≡ 0 → Either 4 x → Either 4 y → Either 4 z → ((x ≡ 0) → (y ≡ 0) → (z ≡ 0) → ⊥) → 4 ≡ steps k x y z f
-unfolding steps
-step-word k x y z f p (inr q) b c h = rw (p, q) refl
-step-word k x y z f p (inl q) (inr r) c h = rw (p, q, r) refl
-step-word k x y z f p (inl q) (inl r) (inr s) h = rw (p, q, r, s) refl
-step-word k x y z f p (inl q) (inl r) (inl s) h = absurd (h q r s)
-
 other : {r x : ℕ} → Either r x → (x ≡ 0 → ⊥) → x ≡ r
 other (inl e) h = absurd (h e)
 other (inr e) h = e
@@ -208,46 +206,47 @@ pub record Numbered (P : ℕ → Type 0) : Type 0 where
   number : ℕ
   row : P number
 
+-- 3, then 4, then 11, by what is known of the steps
+module _ (k w f : ℕ) where
+  kind-first : k ≡ 3 → 3 ≡ (k then w then f)
+  kind-first p = rw p refl
+
+  word-next : k ≡ 0 → w ≡ 4 → 4 ≡ (k then w then f)
+  word-next p q = rw (p, q) refl
+
+  frequency-last : k ≡ 0 → w ≡ 0 → f ≡ (k then w then f)
+  frequency-last p q = rw (p, q) refl
+
 module _ (k a b c : ℕ) where
-  abbrev u : ℕ
-  u = used (setterOf k)
+  abbrev s : Setter
+  s = setterOf k
+
+  abbrev kinds : ℕ
+  kinds = kindRefusal s
+
+  abbrev words : ℕ
+  words = wordsRefusal (used s) a b c
+
+  abbrev setting : ℕ
+  setting = settingRefusal s a
 
   row-number : {r : ℕ} → EntryRow k a b c r → r ≡ entryRefusal k a b c
-  unfolding steps
-  row-number (is-right t w f) =
-      sym (frequency-accepted (setterOf k) a f)
-      ∙ step-four (kindRefusal (setterOf k)) (wordRefusal u 0 a) (wordRefusal u 1 b) (wordRefusal u 2 c) (settingRefusal (setterOf k) a) (taken (k % 16) (k / 16) t)
-      (word-accepted u 0 a (w .word-a)) (word-accepted u 1 b (w .word-b)) (word-accepted u 2 c (w .word-c))
-  row-number (wrong-kind n) =
-      step-kind (kindRefusal (setterOf k)) (wordRefusal u 0 a) (wordRefusal u 1 b) (wordRefusal u 2 c) (settingRefusal (setterOf k) a)
-      (other (kind-either (setterOf k)) (λ e. n (takes (k % 16) (k / 16) e)))
-  row-number (wrong-word t n) =
-      step-word (kindRefusal (setterOf k)) (wordRefusal u 0 a) (wordRefusal u 1 b) (wordRefusal u 2 c) (settingRefusal (setterOf k) a) (taken (k % 16) (k / 16) t)
-      (word-either u 0 a) (word-either u 1 b) (word-either u 2 c)
-      (λ p q r. n (record { word-a = word-right u 0 a p; word-b = word-right u 1 b q; word-c = word-right u 2 c r }))
+  row-number (is-right t w f) = sym (frequency-accepted s a f) ∙ frequency-last kinds words setting (taken (k % 16) (k / 16) t) (words-accepted s a b c w)
+  row-number (wrong-kind n) = kind-first kinds words setting (other (kind-either s) (λ e. n (takes (k % 16) (k / 16) e)))
+  row-number (wrong-word t n) = word-next kinds words setting (taken (k % 16) (k / 16) t) (other (words-either (used s) a b c) (λ e. n (words-right s a b c e)))
   row-number (wrong-frequency t w n) =
-      sym (other (setting-either (setterOf k) a) (λ e. n (frequency-right (setterOf k) a e)))
-      ∙ step-four (kindRefusal (setterOf k)) (wordRefusal u 0 a) (wordRefusal u 1 b) (wordRefusal u 2 c) (settingRefusal (setterOf k) a) (taken (k % 16) (k / 16) t)
-      (word-accepted u 0 a (w .word-a)) (word-accepted u 1 b (w .word-b)) (word-accepted u 2 c (w .word-c))
+      sym (other (setting-either s a) (λ e. n (frequency-right s a e)))
+      ∙ frequency-last kinds words setting (taken (k % 16) (k / 16) t) (words-accepted s a b c w)
 
   some-row : Numbered (EntryRow k a b c)
-  some-row = go (kind-either (setterOf k)) (word-either u 0 a) (word-either u 1 b) (word-either u 2 c) (setting-either (setterOf k) a)
+  some-row = go (kind-either s) (words-either (used s) a b c) (setting-either s a)
     where
-      go : Either 3 (kindRefusal (setterOf k)) → Either 4 (wordRefusal u 0 a) → Either 4 (wordRefusal u 1 b) → Either 4 (wordRefusal u 2 c) → Either 11 (settingRefusal (setterOf k) a)
-          → Numbered (EntryRow k a b c)
-      go (inr p) x y z f = record { number = 3; row = wrong-kind (λ t. let e = sym p ∙ taken (k % 16) (k / 16) t in omega arith) }
-      go (inl p) (inr q) y z f =
-          record { number = 4; row = wrong-word (takes (k % 16) (k / 16) p) (λ w. let e = sym q ∙ word-accepted u 0 a (w .word-a) in omega arith) }
-      go (inl p) (inl q) (inr r) z f =
-          record { number = 4; row = wrong-word (takes (k % 16) (k / 16) p) (λ w. let e = sym r ∙ word-accepted u 1 b (w .word-b) in omega arith) }
-      go (inl p) (inl q) (inl r) (inr t) f =
-          record { number = 4; row = wrong-word (takes (k % 16) (k / 16) p) (λ w. let e = sym t ∙ word-accepted u 2 c (w .word-c) in omega arith) }
-      go (inl p) (inl q) (inl r) (inl t) (inr f) =
-          let w : WordsRight (setterOf k) a b c = record { word-a = word-right u 0 a q; word-b = word-right u 1 b r; word-c = word-right u 2 c t } in
-          record { number = 11; row = wrong-frequency (takes (k % 16) (k / 16) p) w (λ g. let e = sym f ∙ frequency-accepted (setterOf k) a g in omega arith) }
-      go (inl p) (inl q) (inl r) (inl t) (inl f) =
-          let w : WordsRight (setterOf k) a b c = record { word-a = word-right u 0 a q; word-b = word-right u 1 b r; word-c = word-right u 2 c t } in
-          record { number = 0; row = is-right (takes (k % 16) (k / 16) p) w (frequency-right (setterOf k) a f) }
+      go : Either 3 kinds → Either 4 words → Either 11 setting → Numbered (EntryRow k a b c)
+      go (inr p) w f = record { number = 3; row = wrong-kind (λ t. let e = sym p ∙ taken (k % 16) (k / 16) t in omega arith) }
+      go (inl p) (inr q) f = record { number = 4; row = wrong-word (takes (k % 16) (k / 16) p) (λ w. let e = sym q ∙ words-accepted s a b c w in omega arith) }
+      go (inl p) (inl q) (inr f) =
+          record { number = 11; row = wrong-frequency (takes (k % 16) (k / 16) p) (words-right s a b c q) (λ g. let e = sym f ∙ frequency-accepted s a g in omega arith) }
+      go (inl p) (inl q) (inl f) = record { number = 0; row = is-right (takes (k % 16) (k / 16) p) (words-right s a b c q) (frequency-right s a f) }
 
   row-of : EntryRow k a b c (entryRefusal k a b c)
   row-of = subst (λ (r : ℕ). EntryRow k a b c r) (row-number (some-row .row)) (some-row .row)

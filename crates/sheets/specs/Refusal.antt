@@ -34,6 +34,9 @@ used Unknown = 0
 abbrev pub wordRefusal : ℕ → ℕ → ℕ → ℕ
 wordRefusal u k w = cond (ltb k u) (cond (otherNan w) 4 0) (cond (eqb w 0) 0 4)
 
+abbrev pub wordsRefusal : ℕ → ℕ → ℕ → ℕ → ℕ
+wordsRefusal u a b c = wordRefusal u 0 a then wordRefusal u 1 b then wordRefusal u 2 c
+
 -- Exact with f below 0, where a is an f
 abbrev pub settingRefusal : Setter → ℕ → ℕ
 settingRefusal DcBlocker a = 0
@@ -45,8 +48,9 @@ settingRefusal ModifiedSvf a = 0
 settingRefusal CrossoverSvf a = 0
 settingRefusal Unknown a = 0
 
+-- 3, then 4, then 11
 abbrev pub refusalOf : Setter → ℕ → ℕ → ℕ → ℕ
-refusalOf s a b c = kindRefusal s then wordRefusal (used s) 0 a then wordRefusal (used s) 1 b then wordRefusal (used s) 2 c then settingRefusal s a
+refusalOf s a b c = kindRefusal s then wordsRefusal (used s) a b c then settingRefusal s a
 
 -- an entry of the kind byte k and the words a, b, c
 abbrev pub entryRefusal : ℕ → ℕ → ℕ → ℕ → ℕ

@@ -6,7 +6,7 @@ ghost use lib.ListN.{length};
 ghost use Rattle.filter_core.specs.Arithmetic.{word};
 ghost use Rattle.filter_core.specs.Refusal.{frequencyRefusal};
 ghost use Rattle.sheets.specs.Kind.{kindRefusal};
-ghost use Rattle.sheets.specs.Refusal.{_then_, firstRefusal, used, wordRefusal, settingRefusal, refusalOf};
+ghost use Rattle.sheets.specs.Refusal.{_then_, firstRefusal, used, wordRefusal, wordsRefusal, settingRefusal, refusalOf};
 ghost use Rattle.sheets.specs.Sheet.{entriesOf, Sized, sizeRefusal, refusalAt, checkOf, entryNumberRefusal, checkEntryOf, lookupOf};
 use crate::setter::Setter;
 use crate::setter::setter_of;
@@ -86,16 +86,22 @@ fn setting_refusal(setter: Setter, a: u32) -> u8
     }
 }
 
-fn refusal_of(setter: Setter, a: u32, b: u32, c: u32) -> u8
-    ensures { λ r. ⌜ r ≡ refusalOf setter a b c ⌝ }
+fn words_refusal(used: u8, a: u32, b: u32, c: u32) -> u8
+    ensures { λ r. ⌜ r ≡ wordsRefusal used a b c ⌝ }
 {
-    let used = words_used(setter);
-    let kind = kind_refusal(setter);
     let first = word_refusal(used, 0, a);
     let second = word_refusal(used, 1, b);
     let third = word_refusal(used, 2, c);
+    then(first, then(second, third))
+}
+
+fn refusal_of(setter: Setter, a: u32, b: u32, c: u32) -> u8
+    ensures { λ r. ⌜ r ≡ refusalOf setter a b c ⌝ }
+{
+    let kind = kind_refusal(setter);
+    let words = words_refusal(words_used(setter), a, b, c);
     let setting = setting_refusal(setter, a);
-    then(kind, then(first, then(second, then(third, setting))))
+    then(kind, then(words, setting))
 }
 
 fn wide(b: u8) -> usize

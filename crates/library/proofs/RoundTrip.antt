@@ -1,0 +1,119 @@
+-- A sheet and its library come back from each other. Assumes nothing.
+use Prim.Native.Nat.{ℕ, zero, suc, _+_, _*_, _-_, _%_, _/_, _≤_, _<_}
+use mathlib.Core.Path.{_≡_, refl, sym, ap, _∙_}
+use mathlib.Core.List.{List, [], _∷_, _++_}
+use native.Mathlib.Omega.{arith}
+use borrow.Author.Tests.{eq-eqb, le-ltb}
+use lib.ListN.{length, getD, take, drop, length-take, length-drop, length-replicate, take-append-drop}
+use lib.Seq.{take-all, take-length, take-take, take-append-seam, drop-drop, getD-take, getD-drop}
+use Rattle.words.specs.Word.{wordFrom}
+use Rattle.sheets.specs.Sheet.{entriesOf, Sized, kindAt, settingAt, wordAt, checkOf}
+use Rattle.sheets.specs.Rows.{Sheet}
+use Rattle.sheets.proofs.Rows.{sheet-check}
+use Rattle.library.specs.Entry.{entryOf}
+use Rattle.library.specs.Library.{over, zeros, libraryOf, readOf, bytesOf, settingIn, entryAt, writeRefusal, writeOf, writtenOf}
+use Rattle.library.specs.RoundTrip.{Rewritten, ReadWrite, WriteRead, OneSheet, Same, SameEntries}
+use Rattle.library.specs.declared.Written.{Written}
+use Rattle.library.specs.declared.Reading.{Reading}
+use Rattle.library.proofs.Copies.{over-front}
+
+-- ---- lists
+
+over-all : (xs ys : List ℕ) → length xs ≤ length ys → over 0 xs ys ≡ xs ++ drop (length xs) ys
+unfolding over
+over-all [] ys h = refl
+over-all (x ∷ xs) [] h = absurd (omega arith)
+over-all (x ∷ xs) (y ∷ ys) h = ap (λ (l : List ℕ). x ∷ l) (over-all xs ys (omega arith))
+
+-- a part of the first n
+part-of-first : (k m n : ℕ) (l : List ℕ) → k + m ≤ n → take m (drop k (take n l)) ≡ take m (drop k l)
+part-of-first zero m n l h = take-take m n l (omega arith)
+part-of-first (suc k) m zero l h = absurd (omega arith)
+part-of-first (suc k) m (suc n) [] h = refl
+part-of-first (suc k) m (suc n) (x ∷ l) h = part-of-first k m n l (omega arith)
+
+two-first : (s : List ℕ) → 2 ≤ length s → s ≡ getD s 0 0 ∷ getD s 1 0 ∷ drop 2 s
+two-first [] h = absurd (omega arith)
+two-first (x ∷ []) h = absurd (omega arith)
+two-first (x ∷ (y ∷ s)) h = refl
+
+-- ---- a sheet's parts in its library
+
+module _ (s : List ℕ) (z : Sized s) where
+  pub kinds-in : take (entriesOf s) (libraryOf s .kinds) ≡ take (entriesOf s) (drop 2 s)
+  kinds-in =
+      let n = entriesOf s in
+      let l = z .long in
+      let m = z .most in
+      let k : length (take n (drop 2 s)) ≡ n = length-take n (drop 2 s) ∙ rw (length-drop 2 s) (omega arith) in
+      over-front n (take n (drop 2 s)) (zeros 64) (omega arith) (omega (arith, length-replicate {A = ℕ} 64 0))
+      ∙ take-take n n (drop 2 s) (omega arith)
+
+  pub settings-in : take (12 * entriesOf s) (libraryOf s .settings) ≡ drop (2 + entriesOf s) s
+  settings-in =
+      let n = entriesOf s in
+      let l = z .long in
+      let m = z .most in
+      let k : length (drop (2 + n) s) ≡ 12 * n = length-drop (2 + n) s ∙ omega arith in
+      over-front (12 * n) (drop (2 + n) s) (zeros 768) (omega arith) (omega (arith, length-replicate {A = ℕ} 768 0))
+      ∙ take-all (12 * n) (drop (2 + n) s) (omega arith)
+
+  -- the sheet of the library is the sheet
+  pub bytes-in : bytesOf (libraryOf s) ≡ s
+  bytes-in =
+      let n = entriesOf s in
+      let l = z .long in
+      let m = z .most in
+      let a : n % 256 ≡ getD s 0 0 = omega arith in
+      let b : n / 256 ≡ getD s 1 0 = omega arith in
+      let c : drop n (drop 2 s) ≡ drop (2 + n) s = drop-drop n 2 s in
+      let d : take n (drop 2 s) ++ drop (2 + n) s ≡ drop 2 s = rw (← c) (take-append-drop n (drop 2 s)) in
+      rw (kinds-in, settings-in, a, b, d) (sym (two-first s (omega arith)))
+
+-- ---- the round trips
+
+module _ (s : List ℕ) (h : Sheet s) where
+  accepted : (out : List ℕ) → length s ≤ length out → writeRefusal (entriesOf s) (length out) ≡ 0
+  accepted out r =
+      let n = entriesOf s in
+      let l = h .size .long in
+      rw (le-ltb n 1 (h .size .some), le-ltb 64 n (h .size .most), le-ltb (length out) (2 + 13 * n) (omega arith)) refl
+
+  pub rewritten : (out : List ℕ) → length s ≤ length out → Rewritten s out
+  rewritten out r =
+      let n = entriesOf s in
+      let a = accepted out r in
+      let l : 2 + 13 * n ≡ length s = sym (h .size .long) in
+      record {
+        answer = rw (a, l) refl;
+        bytes = rw (a, l, bytes-in s (h .size), take-length) (over-all s out r);
+      }
+
+  pub reread : (out : List ℕ) → length s ≤ length out → readOf (take (length s) (writtenOf (libraryOf s) out)) ≡ record { number = 0; library = libraryOf s }
+  reread out r =
+      let w : take (length s) (writtenOf (libraryOf s) out) ≡ s = rw (rewritten out r .bytes) (take-append-seam s (drop (length s) out)) in
+      ap readOf w ∙ rw (sheet-check s h) refl
+
+pub one-sheet : OneSheet
+one-sheet s t h k e = sym (bytes-in s (h .size)) ∙ ap bytesOf e ∙ bytes-in t (k .size)
+
+-- ---- entries
+
+module _ (s : List ℕ) (h : Sheet s) (e : ℕ) (l : e < entriesOf s) where
+  pub kind-in : getD (libraryOf s .kinds) e 0 ≡ kindAt s e
+  kind-in =
+      let n = entriesOf s in
+      sym (getD-take n (libraryOf s .kinds) e 0 l) ∙ ap (λ (x : List ℕ). getD x e 0) (kinds-in s (h .size)) ∙ getD-take n (drop 2 s) e 0 l ∙ getD-drop 2 s e 0
+
+  pub setting-in : settingIn (libraryOf s) e ≡ settingAt s e
+  setting-in =
+      let n = entriesOf s in
+      sym (part-of-first (12 * e) 12 (12 * n) (libraryOf s .settings) (omega arith))
+      ∙ ap (λ (x : List ℕ). take 12 (drop (12 * e) x)) (settings-in s (h .size))
+      ∙ ap (take 12) (drop-drop (12 * e) (2 + n) s)
+
+  pub entry-in : entryAt (libraryOf s) e ≡ entryOf (kindAt s e) (wordAt s e 0) (wordAt s e 1) (wordAt s e 2)
+  entry-in = rw (kind-in, setting-in) refl
+
+pub same-entries : SameEntries
+same-entries s h = record { number = refl; most = h .size .most; entry = λ e l. entry-in s h e l }
