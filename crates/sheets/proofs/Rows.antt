@@ -21,7 +21,7 @@ use Rattle.sheets.specs.Sheet.{entriesOf, Sized, sizeRefusal, kindAt, se
 use Rattle.sheets.specs.Rows.{Takes, KindRight, WordRight, WordsRight, FrequencyRight, EntryRow, is-right, wrong-kind, wrong-word, wrong-frequency, RowAt, Sheet, SheetRow, is-sheet, wrong-size, wrong-entry, LookupRow, is-found, no-sheet, no-entry, Checked, Bytes, WordsReturn}
 use Rattle.sheets.specs.declared.setter.Setter.{Setter}
 use Rattle.sheets.specs.declared.setter.Setter.the-variants.{DcBlocker, OnePole, SvfFrequency, SvfCoefficients, NaiveSvf, ModifiedSvf, CrossoverSvf, Unknown}
-use Rattle.sheets.proofs.Checks.{then-zero, none-then, some-then, first-found, sized, check-size}
+use Rattle.sheets.proofs.Checks.{then-zero, none-then, some-then, first-found, size-zero, sized}
 
 -- a refusal is none, or its number
 abbrev Either : ℕ → ℕ → Type 0
@@ -263,13 +263,10 @@ size-either l n = go (ltb l 2) (ltb n 1) (ltb 64 n) (eqb l (2 + 13 * n))
     go false false false true = inl refl
     go false false false false = inr refl
 
-pub size-right : (s : List ℕ) → Sized s → sizeRefusal (length s) (entriesOf s) ≡ 0
+size-right : (s : List ℕ) → Sized s → sizeRefusal (length s) (entriesOf s) ≡ 0
 size-right s z =
-    let n = entriesOf s in
-    let a = z .some in
-    let b = z .most in
     let l = z .long in
-    rw (le-ltb (length s) 2 (omega arith), le-ltb n 1 a, le-ltb 64 n b, eq-eqb (length s) (2 + 13 * n) l) refl
+    sym (size-zero (length s) (entriesOf s) (omega arith) (z .some) (z .most) l)
 
 first-all : (f : ℕ → ℕ) (n : ℕ) → ((e : ℕ) → e < n → f e ≡ 0) → firstRefusal n f ≡ 0
 unfolding firstRefusal
