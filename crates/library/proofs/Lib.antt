@@ -3,3 +3,4 @@ pub mod Readings
 pub mod Writings
 pub mod Entries
 pub mod RoundTrip
+pub mod Example

@@ -11,7 +11,7 @@ use Rattle.sheets.specs.Sheet.{entriesOf, Sized, kindAt, settingAt, wordAt, che
 use Rattle.sheets.specs.Rows.{Sheet}
 use Rattle.sheets.proofs.Rows.{sheet-check}
 use Rattle.library.specs.Entry.{entryOf}
-use Rattle.library.specs.Library.{over, zeros, libraryOf, readOf, bytesOf, settingIn, entryAt, writeRefusal, writeOf, writtenOf}
+use Rattle.library.specs.Library.{over, zeros, none, libraryOf, readOf, bytesOf, settingIn, entryAt, writeRefusal, writeOf, writtenOf}
 use Rattle.library.specs.RoundTrip.{Rewritten, ReadWrite, WriteRead, OneSheet, Same, SameEntries}
 use Rattle.library.specs.declared.Written.{Written}
 use Rattle.library.specs.declared.Reading.{Reading}
@@ -117,3 +117,8 @@ module _ (s : List ℕ) (h : Sheet s) (e : ℕ) (l : e < entriesOf s) where
 
 pub same-entries : SameEntries
 same-entries s h = record { number = refl; most = h .size .most; entry = λ e l. entry-in s h e l }
+
+-- no bytes stand for no library
+pub no-sheet : libraryOf [] ≡ none
+unfolding over
+no-sheet = refl

@@ -1,3 +1,4 @@
 pub mod Entry
 pub mod Library
 pub mod RoundTrip
+pub mod Example

@@ -6,12 +6,12 @@ use mathlib.Core.List.{List, []}
 use native.Mathlib.Numerals.{add-one}
 use native.Mathlib.Omega.{arith}
 use borrow.Author.Needs.{needs}
-use borrow.Author.Tests.{eqb-true, eqb-false, eq-eqb, ne-eqb, ltb-true, ltb-false}
+use borrow.Author.Tests.{eqb-true, eqb-false, eq-eqb, ne-eqb, ltb-true, ltb-false, lt-ltb, le-ltb}
 use lib.Dec.{eqb, ltb}
 use lib.ListN.{length, take, drop}
-use Rattle.words.specs.Word.{wordFrom}
+use Rattle.words.specs.Word.{wordFrom, otherNan}
 use Rattle.sheets.specs.Kind.{setterOf}
-use Rattle.sheets.specs.Refusal.{_then_, firstRefusal, refusalOf}
+use Rattle.sheets.specs.Refusal.{_then_, firstRefusal, wordRefusal, refusalOf}
 use Rattle.sheets.specs.Sheet.{entriesOf, Sized, kindAt, settingAt, wordAt, sizeRefusal, refusalAt, checkOf, entryNumberRefusal, checkEntryOf, lookupOf}
 use Rattle.sheets.specs.declared.setter.Setter.{Setter}
 
@@ -51,6 +51,21 @@ first-found f (suc n) e {r} p h q z = go (λ l. first-found f n e p l q z) (eqb 
 pub first-none : (f : ℕ → ℕ) (n e : ℕ) → firstRefusal e f ≡ 0 → e ≤ n → n ≤ e → 0 ≡ firstRefusal n f
 first-none f n e p a b = let w : e ≡ n = omega arith in sym (rw w at p)
 
+-- ---- a word
+
+module _ (u k w : ℕ) where
+  pub nan-refused : {r : Bool} → k < u → r ≡ otherNan w → r ≡ true → 4 ≡ wordRefusal u k w
+  nan-refused l p q = rw (lt-ltb k u l, ← p, q) refl
+
+  pub nan-accepted : {r : Bool} → k < u → r ≡ otherNan w → r ≡ false → 0 ≡ wordRefusal u k w
+  nan-accepted l p q = rw (lt-ltb k u l, ← p, q) refl
+
+  pub unused-accepted : u ≤ k → w ≡ 0 → 0 ≡ wordRefusal u k w
+  unused-accepted l e = rw (le-ltb k u l, eq-eqb w 0 e) refl
+
+  pub unused-refused : u ≤ k → (w ≡ 0 → ⊥) → 4 ≡ wordRefusal u k w
+  unused-refused l e = rw (le-ltb k u l, ne-eqb w 0 e) refl
+
 -- ---- sizes
 
 -- a choice that is 0, the first way of which is not
@@ -67,6 +82,19 @@ two z = omega arith
 
 five : _≡_ {A = ℕ} 5 0 → ⊥
 five z = omega arith
+
+pub size-two : (l n : ℕ) → (2 ≤ l → 1 ≤ n → n ≤ 64 → l ≡ 2 + 13 * n → ⊥) → 2 ≡ sizeRefusal l n
+size-two l n h = go (ltb l 2) (ltb n 1) (ltb 64 n) (eqb l (2 + 13 * n)) refl refl refl refl
+  where
+    go : (a b c d : Bool) → ltb l 2 ≡ a → ltb n 1 ≡ b → ltb 64 n ≡ c → eqb l (2 + 13 * n) ≡ d → 2 ≡ sizeRefusal l n
+    go true b c d p q r s = rw p refl
+    go false true c d p q r s = rw (p, q) refl
+    go false false true d p q r s = rw (p, q, r) refl
+    go false false false true p q r s = absurd (h (ltb-false l 2 p) (ltb-false n 1 q) (ltb-false 64 n r) (eqb-true l (2 + 13 * n) s))
+    go false false false false p q r s = rw (p, q, r, s) refl
+
+pub size-zero : (l n : ℕ) → 2 ≤ l → 1 ≤ n → n ≤ 64 → l ≡ 2 + 13 * n → 0 ≡ sizeRefusal l n
+size-zero l n a b c d = rw (le-ltb l 2 a, le-ltb n 1 b, le-ltb 64 n c, eq-eqb l (2 + 13 * n) d) refl
 
 pub sized : (s : List ℕ) → sizeRefusal (length s) (entriesOf s) ≡ 0 → Sized s
 sized s h = go (length s) (entriesOf s) refl refl h

@@ -8,8 +8,8 @@ use native.Mathlib.Omega.{arith}
 use borrow.Author.Tests.{eqb-true, eqb-false, eq-eqb, ne-eqb, ltb-true, ltb-false, lt-ltb, le-ltb}
 use lib.Dec.{eqb, ltb}
 use lib.Ieee.{isNan, lt}
-use lib.ListN.{length, getD, take, drop, length-take, List·getD-eq-default}
-use lib.Seq.{getD-take, getD-drop}
+use lib.ListN.{length, getD, take, drop, length-take, length-drop, List·getD-eq-default}
+use lib.Seq.{length-take-le, getD-take, getD-drop}
 use Rattle.filter_core.specs.Arithmetic.{word, zeroᶠ}
 use Rattle.filter_core.specs.declared.FrequencyApproximation.{FrequencyApproximation}
 use Rattle.filter_core.specs.declared.FrequencyApproximation.the-variants.{Exact, Accurate, Fast, Dirty}
@@ -17,11 +17,11 @@ use Rattle.words.specs.Word.{wordFrom, writtenNan, otherNan}
 use Rattle.words.proofs.Words.{nan-test, comes-back}
 use Rattle.sheets.specs.Kind.{approximated, exact, setterFor, setterOf, kindRefusal}
 use Rattle.sheets.specs.Refusal.{_then_, firstRefusal, used, wordRefusal, wordsRefusal, settingRefusal, entryRefusal}
-use Rattle.sheets.specs.Sheet.{entriesOf, Sized, sizeRefusal, kindAt, settingAt, wordAt, refusalAt, checkOf, entryNumberRefusal, checkEntryOf}
+use Rattle.sheets.specs.Sheet.{entriesOf, Sized, sizeRefusal, kindAt, settingAt, wordAt, refusalAt, checkOf, entryNumberRefusal, checkEntryOf, lookupOf}
 use Rattle.sheets.specs.Rows.{Takes, KindRight, WordRight, WordsRight, FrequencyRight, EntryRow, is-right, wrong-kind, wrong-word, wrong-frequency, RowAt, Sheet, SheetRow, is-sheet, wrong-size, wrong-entry, LookupRow, is-found, no-sheet, no-entry, Checked, Bytes, WordsReturn}
 use Rattle.sheets.specs.declared.setter.Setter.{Setter}
 use Rattle.sheets.specs.declared.setter.Setter.the-variants.{DcBlocker, OnePole, SvfFrequency, SvfCoefficients, NaiveSvf, ModifiedSvf, CrossoverSvf, Unknown}
-use Rattle.sheets.proofs.Checks.{then-zero, none-then, some-then, first-found, sized, check-size}
+use Rattle.sheets.proofs.Checks.{then-zero, none-then, some-then, first-found, size-zero, sized, found}
 
 -- a refusal is none, or its number
 abbrev Either : ℕ → ℕ → Type 0
@@ -263,13 +263,10 @@ size-either l n = go (ltb l 2) (ltb n 1) (ltb 64 n) (eqb l (2 + 13 * n))
     go false false false true = inl refl
     go false false false false = inr refl
 
-pub size-right : (s : List ℕ) → Sized s → sizeRefusal (length s) (entriesOf s) ≡ 0
+size-right : (s : List ℕ) → Sized s → sizeRefusal (length s) (entriesOf s) ≡ 0
 size-right s z =
-    let n = entriesOf s in
-    let a = z .some in
-    let b = z .most in
     let l = z .long in
-    rw (le-ltb (length s) 2 (omega arith), le-ltb n 1 a, le-ltb 64 n b, eq-eqb (length s) (2 + 13 * n) l) refl
+    sym (size-zero (length s) (entriesOf s) (omega arith) (z .some) (z .most) l)
 
 first-all : (f : ℕ → ℕ) (n : ℕ) → ((e : ℕ) → e < n → f e ≡ 0) → firstRefusal n f ≡ 0
 unfolding firstRefusal
@@ -359,11 +356,23 @@ module _ (s : List ℕ) where
       go true true p q = record { number = 0; row = is-found (check-sheet (eqb-true (checkOf s) 0 p)) (ltb-true e (entriesOf s) q) }
       go true false p q = record { number = 5; row = no-entry (check-sheet (eqb-true (checkOf s) 0 p)) (ltb-false e (entriesOf s) q) }
 
+  lookup-part : (e : ℕ) → checkEntryOf s e ≡ 0 → length (lookupOf s e) ≡ 12
+  lookup-part e z =
+      let f = found s e z in
+      let l = f .size .long in
+      let i = f .entry in
+      let d = length-drop (2 + entriesOf s + 12 * e) s in
+      rw z (length-take-le 12 (drop (2 + entriesOf s + 12 * e) s) (omega arith))
+
+  no-lookup : (e : ℕ) → (checkEntryOf s e ≡ 0 → ⊥) → length (lookupOf s e) ≡ 0
+  no-lookup e z = rw (ne-eqb (checkEntryOf s e) 0 z) refl
+
   pub checked : Checked s
   checked =
       record {
         sheets = λ r. (λ e. subst (λ (x : ℕ). SheetRow s x) (sym e) sheet-row, λ p. sheet-number p);
         lookups = λ e r. (λ q. subst (λ (x : ℕ). LookupRow s e x) (lookup-number e (lookup-some e .row) ∙ sym q) (lookup-some e .row), λ p. lookup-number e p);
+        parts = λ e. (λ z. lookup-part e z, λ z. no-lookup e z);
       }
 
 -- ---- the words of a sheet come back from binary32

@@ -17,7 +17,18 @@ exact s p = getD (s ∷ []) p Unknown
 -- the kinds 1 to 7; there is no kind 0
 abbrev pub setterFor : ℕ → ℕ → Setter
 setterFor kind p =
-    getD (Unknown ∷ exact DcBlocker p ∷ approximated OnePole p ∷ approximated SvfFrequency p ∷ exact SvfCoefficients p ∷ approximated NaiveSvf p ∷ exact ModifiedSvf p ∷ exact CrossoverSvf p ∷ []) kind Unknown
+    getD
+    (Unknown
+    ∷ exact DcBlocker p
+    ∷ approximated OnePole p
+    ∷ approximated SvfFrequency p
+    ∷ exact SvfCoefficients p
+    ∷ approximated NaiveSvf p
+    ∷ exact ModifiedSvf p
+    ∷ exact CrossoverSvf p
+    ∷ [])
+    kind
+    Unknown
 
 -- kind byte = kind + 16 * approximation
 abbrev pub setterOf : ℕ → Setter

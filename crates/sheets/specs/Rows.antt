@@ -5,13 +5,13 @@ use mathlib.Core.Path.{_≡_}
 use mathlib.Core.Bool.{true, false}
 use mathlib.Core.List.{List}
 use lib.Ieee.{binary32, isNan, lt, toBits}
-use lib.ListN.{getD}
+use lib.ListN.{length, getD}
 use Rattle.filter_core.specs.Arithmetic.{word, zeroᶠ}
 use Rattle.filter_core.specs.declared.FrequencyApproximation.the-variants.{Exact}
 use Rattle.words.specs.Word.{writtenNan}
 use Rattle.sheets.specs.Kind.{setterOf}
 use Rattle.sheets.specs.Refusal.{used}
-use Rattle.sheets.specs.Sheet.{entriesOf, Sized, kindAt, wordAt, checkOf, checkEntryOf}
+use Rattle.sheets.specs.Sheet.{entriesOf, Sized, kindAt, wordAt, checkOf, checkEntryOf, lookupOf}
 use Rattle.sheets.specs.declared.setter.Setter.{Setter}
 use Rattle.sheets.specs.declared.setter.Setter.the-variants.{OnePole, SvfFrequency, NaiveSvf}
 
@@ -67,10 +67,11 @@ pub data LookupRow (s : List ℕ) (e : ℕ) : ℕ → Type 0 where
   no-sheet : {r : ℕ} → SheetRow s r → (r ≡ 0 → ⊥) → LookupRow s e r
   no-entry : Sheet s → entriesOf s ≤ e → LookupRow s e 5
 
--- a number is given in its row's case, and in no other
+-- a number is given in its row's case, and in no other; the part of a lookup is empty exactly where it is refused
 pub record Checked (s : List ℕ) : Type 0 where
   pub sheets : (r : ℕ) → (r ≡ checkOf s → SheetRow s r) × (SheetRow s r → r ≡ checkOf s)
   pub lookups : (e r : ℕ) → (r ≡ checkEntryOf s e → LookupRow s e r) × (LookupRow s e r → r ≡ checkEntryOf s e)
+  pub parts : (e : ℕ) → (checkEntryOf s e ≡ 0 → length (lookupOf s e) ≡ 12) × ((checkEntryOf s e ≡ 0 → ⊥) → length (lookupOf s e) ≡ 0)
 
 abbrev pub CheckByRows : Type 0
 CheckByRows = (s : List ℕ) → Checked s

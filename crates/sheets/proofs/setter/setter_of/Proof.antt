@@ -6,7 +6,7 @@ use Rattle.sheets.proofs.setter.setter_of.Statement.{statement}
 use Rattle.sheets.proofs.setter.setter_of.Tie as tie
 
 -- the keys of each arm
-arms : List (List ℕ)
+abbrev arms : List (List ℕ)
 arms =
     (1 ∷ [])
     ∷ (2 ∷ [])
@@ -26,10 +26,6 @@ arms =
     ∷ (53 ∷ [])
     ∷ (0 ∷ 20 ∷ 36 ∷ 52 ∷ [])
     ∷ []
-
-ranges : tie.Need-returns-18
-unfolding arms
-ranges c = otherwise arms tt (c .before .args .kind) (search needs) (c .match .rest)
 
 pub setter-of-spec : {M : Type 1} → statement M
 setter-of-spec =
@@ -52,4 +48,4 @@ setter-of-spec =
     (λ c. search kinds)
     (λ c. search kinds)
     (λ c. search kinds)
-    ranges)
+    (λ c. otherwise arms tt (c .before .args .kind) (search needs) (c .match .rest)))
