@@ -1,0 +1,204 @@
+/*
+ * The six filters of filter.rs, proved in Rattle, for C. Link target/staticlib/libfilter_exports.a, which `rt staticlib filter_exports`
+ * proves and writes.
+ *
+ * A filter is an array of floats, in the order that its group below names. `_new` writes a fresh one. Every call reads and writes the
+ * array that it is handed and keeps nothing else.
+ *
+ * Pointers are not null and are aligned, the output of a call overlaps none of its other arguments, and a buffer has at least as many
+ * places as its length says. A buffer form works over the shortest of its lengths; later places keep their contents.
+ *
+ * A call that can be refused answers MOTIF_OK or the refusal's number. A refused call changes nothing: neither the filter nor an output.
+ */
+#ifndef MOTIF_FILTERS_H
+#define MOTIF_FILTERS_H
+
+#include <stddef.h>
+#include <stdint.h>
+
+#ifdef __cplusplus
+extern "C" {
+#endif
+
+/* What a call that can be refused answers. */
+enum {
+    MOTIF_OK = 0,
+    MOTIF_STEP = 10,      /* a stride or a decimation of 0 */
+    MOTIF_FREQUENCY = 11, /* MOTIF_EXACT with a frequency below 0 */
+    MOTIF_UNKNOWN = 100   /* a number that names no mode, or no approximation */
+};
+
+/* A mode: which output of a filter is answered. */
+enum {
+    MOTIF_LOW_PASS = 0,
+    MOTIF_BAND_PASS = 1,
+    MOTIF_BAND_PASS_NORMALIZED = 2,
+    MOTIF_HIGH_PASS = 3
+};
+
+/* An approximation: how a frequency, as a part of the sampling rate, becomes a coefficient. */
+enum {
+    MOTIF_EXACT = 0,
+    MOTIF_ACCURATE = 1,
+    MOTIF_FAST = 2,
+    MOTIF_DIRTY = 3
+};
+
+/* ---- DcBlocker: pole, x, y */
+
+/* All words 0. */
+void dc_blocker_new(float state[3]);
+
+/* Sets the pole and clears x and y. */
+void dc_blocker_init(float state[3], float pole);
+
+/* Filters a buffer in place. */
+void dc_blocker_process(float state[3], float *in_out, size_t in_out_length);
+
+/* ---- OnePole: g, gi, state */
+
+/* All words 0. */
+void one_pole_new(float state[3]);
+
+/* Frequency 0.01 by MOTIF_DIRTY, and the state cleared. */
+void one_pole_init(float state[3]);
+
+/* Clears the state. */
+void one_pole_reset(float state[3]);
+
+/* tan (pi f) into *value. Refused: MOTIF_UNKNOWN, MOTIF_FREQUENCY. */
+uint8_t one_pole_tan(float f, uint8_t approximation, float *value);
+
+/* Sets the frequency; the state stays. Refused: MOTIF_UNKNOWN, MOTIF_FREQUENCY. */
+uint8_t one_pole_set_f(float state[3], float f, uint8_t approximation);
+
+/* One sample into *out. Both band-pass modes put out 0 while the state moves on. Refused: MOTIF_UNKNOWN. */
+uint8_t one_pole_process(float state[3], float in, uint8_t mode, float *out);
+
+/* ---- Svf: g, r, h, state_1, state_2 */
+
+/* All words 0. */
+void svf_new(float state[5]);
+
+/* Frequency 0.01 and resonance 100 by MOTIF_DIRTY, and the state cleared. */
+void svf_init(float state[5]);
+
+/* Clears the state. */
+void svf_reset(float state[5]);
+
+/* The settings of another filter; the state stays. */
+void svf_set(float state[5], const float other[5]);
+
+/* Sets all three coefficients. */
+void svf_set_g_r_h(float state[5], float g, float r, float h);
+
+/* Sets g and r, and h from them. */
+void svf_set_g_r(float state[5], float g, float r);
+
+/* Sets g and the resonance, and the rest from them. */
+void svf_set_g_q(float state[5], float g, float resonance);
+
+/* Sets the frequency and the resonance. Refused: MOTIF_UNKNOWN, MOTIF_FREQUENCY. */
+uint8_t svf_set_f_q(float state[5], float f, float resonance, uint8_t approximation);
+
+/* The word g. */
+float svf_g(const float state[5]);
+
+/* The word r. */
+float svf_r(const float state[5]);
+
+/* The word h. */
+float svf_h(const float state[5]);
+
+/* One sample into *out. Refused: MOTIF_UNKNOWN. */
+uint8_t svf_process(float state[5], float in, uint8_t mode, float *out);
+
+/* One sample, in two modes. Refused: MOTIF_UNKNOWN. */
+uint8_t svf_process_dual(float state[5], float in, float *out_1, float *out_2, uint8_t mode_1, uint8_t mode_2);
+
+/* A buffer of samples. Refused: MOTIF_UNKNOWN. */
+uint8_t svf_process_buffer(float state[5], const float *in, size_t in_length, float *out, size_t out_length, uint8_t mode);
+
+/* A buffer of samples, each times a gain. The output is overwritten, and nothing is added, as the source does. Refused: MOTIF_UNKNOWN. */
+uint8_t svf_process_add_buffer(float state[5], const float *in, size_t in_length, float *out, size_t out_length, float gain, uint8_t mode);
+
+/* Filters and writes the places 0, stride, 2 stride .. only. Refused: MOTIF_UNKNOWN, MOTIF_STEP. */
+uint8_t svf_process_stride_buffer(float state[5], const float *in, size_t in_length, float *out, size_t out_length, size_t stride, uint8_t mode);
+
+/* A buffer of samples in a mode between others: low-pass at 0, high-pass at 0.5, band-pass at 1. */
+void svf_process_multimode_buffer(float state[5], const float *in, size_t in_length, float *out, size_t out_length, float mode);
+
+/* A buffer of samples into two outputs, each with a gain. Both are overwritten. Refused: MOTIF_UNKNOWN. */
+uint8_t svf_process_add_dual_buffer(float state[5], const float *in, size_t in_length, float *out_1, size_t out_1_length, float *out_2, size_t out_2_length, float gain_1, float gain_2, uint8_t mode);
+
+/* ---- NaiveSvf: f, damp, lp, bp */
+
+/* All words 0. */
+void naive_svf_new(float state[4]);
+
+/* Frequency 0.01 and resonance 100 by MOTIF_DIRTY, and the state cleared. */
+void naive_svf_init(float state[4]);
+
+/* Clears lp and bp. */
+void naive_svf_reset(float state[4]);
+
+/* Sets the frequency and the resonance. Refused: MOTIF_UNKNOWN, MOTIF_FREQUENCY. */
+uint8_t naive_svf_set_f_q(float state[4], float f, float resonance, uint8_t approximation);
+
+/* The word lp. */
+float naive_svf_lp(const float state[4]);
+
+/* The word bp. */
+float naive_svf_bp(const float state[4]);
+
+/* One sample into *out. The normalized band is that from before the update, times damp. Refused: MOTIF_UNKNOWN. */
+uint8_t naive_svf_process(float state[4], float in, uint8_t mode, float *out);
+
+/* A buffer of samples. Refused: MOTIF_UNKNOWN. */
+uint8_t naive_svf_process_buffer(float state[4], const float *in, size_t in_length, float *out, size_t out_length, uint8_t mode);
+
+/* A buffer of samples: its low-pass and its high-pass output. */
+void naive_svf_split(float state[4], const float *in, size_t in_length, float *low, size_t low_length, float *high, size_t high_length);
+
+/* Filters every sample and writes the places 0, decimate, 2 decimate .. only. Refused: MOTIF_UNKNOWN, MOTIF_STEP. */
+uint8_t naive_svf_process_decimate(float state[4], const float *in, size_t in_length, float *out, size_t out_length, size_t decimate, uint8_t mode);
+
+/* ---- ModifiedSvf: f, fq, x, lp, bp */
+
+/* All words 0. */
+void modified_svf_new(float state[5]);
+
+/* As modified_svf_reset. */
+void modified_svf_init(float state[5]);
+
+/* Clears lp and bp, but not x. */
+void modified_svf_reset(float state[5]);
+
+/* Sets f and fq and clears x. */
+void modified_svf_set_f_fq(float state[5], float f, float fq);
+
+/* A buffer of samples. Refused: MOTIF_UNKNOWN. */
+uint8_t modified_svf_process(float state[5], const float *in, size_t in_length, float *out, size_t out_length, uint8_t mode);
+
+/* ---- CrossoverSvf: f, fq, x of both passes, lp of both, bp of both */
+
+/* All words 0. */
+void crossover_svf_new(float state[8]);
+
+/* As crossover_svf_reset. */
+void crossover_svf_init(float state[8]);
+
+/* Clears x, lp and bp. */
+void crossover_svf_reset(float state[8]);
+
+/* Sets f and fq; x stays. */
+void crossover_svf_set_f_fq(float state[8], float f, float fq);
+
+/* A buffer of samples. Refused: MOTIF_UNKNOWN. */
+uint8_t crossover_svf_process(float state[8], const float *in, size_t in_length, float *out, size_t out_length, uint8_t mode);
+
+#ifdef __cplusplus
+}
+#endif
+
+#endif

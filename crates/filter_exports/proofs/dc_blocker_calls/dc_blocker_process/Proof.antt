@@ -1,0 +1,15 @@
+use borrow.Author.Needs.{needs}
+use Rattle.filter_exports.proofs.dc_blocker_calls.dc_blocker_process.Statement.{statement}
+use Rattle.filter_exports.proofs.dc_blocker_calls.dc_blocker_process.Tie as tie
+
+pub dc-blocker-process-spec : {M : Type 1} → statement M
+dc-blocker-process-spec =
+    tie.close
+    (tie.spec
+    (λ c κs. search needs)
+    (λ c κs. search needs)
+    (λ c κs. search needs)
+    (λ c. search needs)
+    (λ c.
+    let e = rw (c .before .before .before .before .before .dc-blocker-of .ensures) at (c .before .before .before .process .ensures) in
+    (rw (c .dc-blocker-words .ensures, e .state), e .buffer)))

@@ -1,0 +1,35 @@
+
+// Document 01's series, which stand for the two calls that filter.rs has no body for.
+mod series {
+    const M_PI_F: f32 = f32::from_bits(0x40490FDB);
+
+    // Abramowitz and Stegun 4.3.101.
+    fn t(x: f32) -> f32 {
+        let y = x * x;
+        x * (1.0
+            + y * (0.3333314036
+                + y * (0.1333923995
+                    + y * (0.0533740603
+                        + y * (0.0245650893 + y * (0.0029005250 + y * 0.0095168091))))))
+    }
+
+    #[inline]
+    pub fn tangent(f: f32) -> f32 {
+        if f <= 0.25 {
+            t(M_PI_F * f)
+        } else {
+            1.0 / t(M_PI_F * (0.5 - f))
+        }
+    }
+
+    // Abramowitz and Stegun 4.3.97.
+    #[inline]
+    pub fn sine(f: f32) -> f32 {
+        let x = M_PI_F * f;
+        let y = x * x;
+        x * (1.0
+            + y * (-0.1666666664
+                + y * (0.0083333315
+                    + y * (-0.0001984090 + y * (0.0000027526 + y * -0.0000000239)))))
+    }
+}

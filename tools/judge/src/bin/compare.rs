@@ -1,0 +1,731 @@
+//! Compares the proved filters with the source's, bit for bit with all NaNs as one: outputs, places that must stay, every retained field,
+//! and the refusals. `compare [--seed N] [--rounds N]`, or `compare --full`: OnePole::tan and the frequency of NaiveSvf at all 2^32 words.
+
+use judge::proved::{self, ffi, Refusal};
+use judge::{bits, oracle, Numbers};
+use std::collections::BTreeMap;
+use std::time::Instant;
+
+const MODES: [(oracle::FilterMode, proved::FilterMode); 4] = [
+    (oracle::FilterMode::LowPass, proved::FilterMode::LowPass),
+    (oracle::FilterMode::BandPass, proved::FilterMode::BandPass),
+    (
+        oracle::FilterMode::BandPassNormalized,
+        proved::FilterMode::BandPassNormalized,
+    ),
+    (oracle::FilterMode::HighPass, proved::FilterMode::HighPass),
+];
+
+type Approximations = (
+    oracle::FrequencyApproximation,
+    proved::FrequencyApproximation,
+);
+
+const APPROXIMATIONS: [Approximations; 4] = [
+    (
+        oracle::FrequencyApproximation::Exact,
+        proved::FrequencyApproximation::Exact,
+    ),
+    (
+        oracle::FrequencyApproximation::Accurate,
+        proved::FrequencyApproximation::Accurate,
+    ),
+    (
+        oracle::FrequencyApproximation::Fast,
+        proved::FrequencyApproximation::Fast,
+    ),
+    (
+        oracle::FrequencyApproximation::Dirty,
+        proved::FrequencyApproximation::Dirty,
+    ),
+];
+
+// The number of an unknown mode or approximation.
+const UNKNOWN: u8 = 100;
+
+/// How many values were compared, by method, and what is being compared now.
+struct Tally {
+    counts: BTreeMap<&'static str, u64>,
+    method: &'static str,
+    what: String,
+}
+
+impl Tally {
+    fn at(&mut self, method: &'static str, what: String) {
+        self.method = method;
+        self.what = what;
+    }
+
+    fn count(&mut self, n: usize) {
+        *self.counts.entry(self.method).or_insert(0) += n as u64;
+    }
+
+    fn fail(&self, part: &str, source: String, ours: String) -> ! {
+        println!(
+            "{} differs in {part}: the source has {source}, the proved filter {ours}",
+            self.method
+        );
+        println!("at {}", self.what);
+        std::process::exit(1)
+    }
+
+    fn words(&mut self, part: &str, source: &[f32], ours: &[f32]) {
+        if source.len() != ours.len() {
+            self.fail(
+                part,
+                format!("{} words", source.len()),
+                format!("{}", ours.len()),
+            );
+        }
+        for (k, (a, b)) in source.iter().zip(ours).enumerate() {
+            if bits(*a) != bits(*b) {
+                self.fail(
+                    &format!("{part} {k}"),
+                    format!("{:08x}", a.to_bits()),
+                    format!("{:08x}", b.to_bits()),
+                );
+            }
+        }
+        self.count(source.len());
+    }
+
+    // What must stay as it was: to the bit, NaNs too.
+    fn stays(&mut self, part: &str, was: &[f32], is: &[f32]) {
+        for (k, (a, b)) in was.iter().zip(is).enumerate() {
+            if a.to_bits() != b.to_bits() {
+                self.fail(
+                    &format!("{part} {k}, which must stay"),
+                    format!("{:08x}", a.to_bits()),
+                    format!("{:08x}", b.to_bits()),
+                );
+            }
+        }
+        self.count(was.len());
+    }
+
+    fn refusal(&mut self, expected: u8, is: u8) {
+        if expected != is {
+            self.fail("the refusal", format!("{expected}"), format!("{is}"));
+        }
+        self.count(1);
+    }
+}
+
+fn number<A>(answer: &Result<A, Refusal>) -> u8 {
+    match answer {
+        Ok(_) => 0,
+        Err(refusal) => refusal.number(),
+    }
+}
+
+// 11 where Exact gets an f below 0.
+fn frequency_refusal(f: f32, approximation: oracle::FrequencyApproximation) -> u8 {
+    if approximation == oracle::FrequencyApproximation::Exact && f < 0.0 {
+        11
+    } else {
+        0
+    }
+}
+
+// A number that names no mode.
+fn unknown(n: &mut Numbers) -> u8 {
+    4 + n.below(252) as u8
+}
+
+// Both sides from the same words.
+macro_rules! pair {
+    ($type:ident, $w:expr) => {
+        (oracle::$type::of_words($w), proved::$type::of_words($w))
+    };
+}
+
+// A setter or another call of no output, on both sides.
+macro_rules! same {
+    ($t:ident, $type:ident, $w:ident, $name:literal, $call:ident ($($arg:expr),*)) => {{
+        let (mut a, mut b) = pair!($type, $w);
+        $t.at(concat!(stringify!($type), "::", $name), format!("{:?} {:?}", $w, ($($arg,)*)));
+        a.$call($($arg),*);
+        b.$call($($arg),*);
+        $t.words("the field", &a.words(), &b.words());
+    }};
+}
+
+fn news(t: &mut Tally) {
+    macro_rules! new {
+        ($type:ident) => {
+            t.at(concat!(stringify!($type), "::new"), String::new());
+            t.words(
+                "the field",
+                &oracle::$type::new().words(),
+                &proved::$type::new().words(),
+            );
+            t.words(
+                "the field",
+                &oracle::$type::default().words(),
+                &proved::$type::default().words(),
+            );
+            let (a, b) = (
+                format!("{:?}", oracle::$type::new()),
+                format!("{:?}", proved::$type::new()),
+            );
+            if a != b {
+                t.fail("its Debug text", a, b);
+            }
+        };
+    }
+    new!(DcBlocker);
+    new!(OnePole);
+    new!(Svf);
+    new!(NaiveSvf);
+    new!(ModifiedSvf);
+    new!(CrossoverSvf);
+}
+
+fn dc_blocker(n: &mut Numbers, t: &mut Tally, tame: bool) {
+    let w = n.words::<3>(tame);
+    same!(t, DcBlocker, w, "init", init(w[0]));
+    let (mut a, mut b) = pair!(DcBlocker, w);
+    let length = n.length();
+    let mut x = n.buffer(length, tame);
+    let mut y = x.clone();
+    t.at("DcBlocker::process", format!("{w:?} {x:?}"));
+    a.process(&mut x);
+    b.process(&mut y);
+    t.words("the place", &x, &y);
+    t.words("the field", &a.words(), &b.words());
+}
+
+fn one_pole(n: &mut Numbers, t: &mut Tally, tame: bool) {
+    let w = n.words::<3>(tame);
+    same!(t, OnePole, w, "init", init());
+    same!(t, OnePole, w, "reset", reset());
+    for (p, q) in APPROXIMATIONS {
+        let f = n.any();
+        let refusal = frequency_refusal(f, p);
+        t.at("OnePole::tan", format!("{f:?} {p:?}"));
+        let got = proved::OnePole::tan(f, q);
+        t.refusal(refusal, number(&got));
+        if let Ok(value) = got {
+            t.words("the value", &[oracle::OnePole::tan(f, p)], &[value]);
+        }
+        let (mut a, mut b) = pair!(OnePole, w);
+        t.at("OnePole::set_f", format!("{w:?} {f:?} {p:?}"));
+        t.refusal(refusal, number(&b.set_f(f, q)));
+        if refusal == 0 {
+            a.set_f(f, p);
+            t.words("the field", &a.words(), &b.words());
+        } else {
+            t.stays("the field", &w, &b.words());
+        }
+    }
+    for (p, q) in MODES {
+        let (mut a, mut b) = pair!(OnePole, w);
+        t.at("OnePole::process", format!("{w:?} {p:?}"));
+        for _ in 0..8 {
+            let x = n.value(tame);
+            t.words("the output", &[a.process(x, p)], &[b.process(x, q)]);
+            t.words("the field", &a.words(), &b.words());
+        }
+    }
+    let (mode, mut state, mut out) = (unknown(n), w, n.any());
+    let was = out;
+    t.at("OnePole, unknown numbers", format!("{w:?} {mode}"));
+    unsafe {
+        t.refusal(
+            UNKNOWN,
+            ffi::one_pole_process(&mut state, 1.0, mode, &mut out),
+        );
+        t.refusal(UNKNOWN, ffi::one_pole_set_f(&mut state, 0.1, mode));
+        t.refusal(UNKNOWN, ffi::one_pole_tan(0.1, mode, &mut out));
+        t.refusal(11, ffi::one_pole_tan(-1.0, 0, &mut out));
+    }
+    t.stays("the field", &w, &state);
+    t.stays("the output", &[was], &[out]);
+}
+
+fn svf(n: &mut Numbers, t: &mut Tally, tame: bool) {
+    let w = n.words::<5>(tame);
+    let v = n.words::<5>(tame);
+    same!(t, Svf, w, "init", init());
+    same!(t, Svf, w, "reset", reset());
+    same!(t, Svf, w, "set_g_r_h", set_g_r_h(v[0], v[1], v[2]));
+    same!(t, Svf, w, "set_g_r", set_g_r(v[0], v[1]));
+    same!(t, Svf, w, "set_g_q", set_g_q(v[0], v[1]));
+    let (mut a, mut b) = pair!(Svf, w);
+    let (c, d) = pair!(Svf, v);
+    t.at("Svf::set", format!("{w:?} {v:?}"));
+    a.set(&c);
+    b.set(&d);
+    t.words("the field", &a.words(), &b.words());
+    t.at("Svf::g, r, h", format!("{v:?}"));
+    t.words("g, r, h", &[c.g(), c.r(), c.h()], &[d.g(), d.r(), d.h()]);
+    for (p, q) in APPROXIMATIONS {
+        let (f, resonance) = (n.any(), n.any());
+        let refusal = frequency_refusal(f, p);
+        let (mut a, mut b) = pair!(Svf, w);
+        t.at("Svf::set_f_q", format!("{w:?} {f:?} {resonance:?} {p:?}"));
+        t.refusal(refusal, number(&b.set_f_q(f, resonance, q)));
+        if refusal == 0 {
+            a.set_f_q(f, resonance, p);
+            t.words("the field", &a.words(), &b.words());
+        } else {
+            t.stays("the field", &w, &b.words());
+        }
+    }
+    // Settings that a user would have, half of the time.
+    let w = if tame && n.below(2) == 0 {
+        let mut s = oracle::Svf::of_words(w);
+        s.set_f_q(
+            n.frequency(),
+            1.0 + n.frequency(),
+            oracle::FrequencyApproximation::Exact,
+        );
+        s.words()
+    } else {
+        w
+    };
+    for (k, (p, q)) in MODES.into_iter().enumerate() {
+        let (mut a, mut b) = pair!(Svf, w);
+        t.at("Svf::process", format!("{w:?} {p:?}"));
+        for _ in 0..8 {
+            let x = n.value(tame);
+            t.words("the output", &[a.process(x, p)], &[b.process(x, q)]);
+            t.words("the field", &a.words(), &b.words());
+        }
+        for (p2, q2) in MODES {
+            t.at("Svf::process_dual", format!("{w:?} {p:?} {p2:?}"));
+            let x = n.value(tame);
+            let (mut o, mut u) = ([0.0; 2], [1.0; 2]);
+            let [o1, o2] = &mut o;
+            a.process_dual(x, o1, o2, p, p2);
+            let [u1, u2] = &mut u;
+            b.process_dual(x, u1, u2, q, q2);
+            t.words("the output", &o, &u);
+            t.words("the field", &a.words(), &b.words());
+        }
+        let input = {
+            let l = n.length();
+            n.buffer(l, tame)
+        };
+        let out = {
+            let l = n.length();
+            n.buffer(l, false)
+        };
+        let out_2 = {
+            let l = n.length();
+            n.buffer(l, false)
+        };
+        let shortest = input.len().min(out.len());
+        macro_rules! form {
+            ($name:literal, $x:ident, $y:ident, $ours:expr, $theirs:expr, $($arg:expr),*) => {{
+                let (mut a, mut b) = pair!(Svf, w);
+                let (mut $x, mut $y) = (out.clone(), out.clone());
+                t.at(concat!("Svf::", $name), format!("{w:?} {p:?} {:?} {} in, {} out", ($($arg,)*), input.len(), out.len()));
+                $theirs(&mut a, &mut $x);
+                $ours(&mut b, &mut $y);
+                t.words("the place", &$x, &$y);
+                t.words("the field", &a.words(), &b.words());
+            }};
+        }
+        form!(
+            "process_buffer",
+            x,
+            y,
+            |b: &mut proved::Svf, y: &mut [f32]| b.process_buffer(&input, y, q),
+            |a: &mut oracle::Svf, x: &mut [f32]| a.process_buffer(&input, x, p),
+        );
+        let gain = n.value(tame);
+        form!(
+            "process_add_buffer",
+            x,
+            y,
+            |b: &mut proved::Svf, y: &mut [f32]| b.process_add_buffer(&input, y, gain, q),
+            |a: &mut oracle::Svf, x: &mut [f32]| a.process_add_buffer(&input, x, gain, p),
+            gain
+        );
+        let stride = n.step(shortest);
+        form!(
+            "process_stride_buffer",
+            x,
+            y,
+            |b: &mut proved::Svf, y: &mut [f32]| b
+                .process_stride_buffer(&input, y, stride, q)
+                .unwrap(),
+            |a: &mut oracle::Svf, x: &mut [f32]| a.process_stride_buffer(&input, x, stride, p),
+            stride
+        );
+        let multimode = if n.below(2) == 0 {
+            n.any()
+        } else {
+            n.frequency() * 2.0
+        };
+        form!(
+            "process_multimode_buffer",
+            x,
+            y,
+            |b: &mut proved::Svf, y: &mut [f32]| b.process_multimode_buffer(&input, y, multimode),
+            |a: &mut oracle::Svf, x: &mut [f32]| a.process_multimode_buffer(&input, x, multimode),
+            multimode
+        );
+
+        let (mut a, mut b) = pair!(Svf, w);
+        let (mut x, mut y, mut x2, mut y2) =
+            (out.clone(), out.clone(), out_2.clone(), out_2.clone());
+        let (g1, g2) = (n.value(tame), n.value(tame));
+        t.at(
+            "Svf::process_add_dual_buffer",
+            format!(
+                "{w:?} {p:?} {g1:?} {g2:?} {} in, {} and {} out",
+                input.len(),
+                out.len(),
+                out_2.len()
+            ),
+        );
+        a.process_add_dual_buffer(&input, &mut x, &mut x2, g1, g2, p);
+        b.process_add_dual_buffer(&input, &mut y, &mut y2, g1, g2, q);
+        t.words("the first place", &x, &y);
+        t.words("the second place", &x2, &y2);
+        t.words("the field", &a.words(), &b.words());
+
+        let mut b = proved::Svf::of_words(w);
+        let mut y = out.clone();
+        t.at("Svf, refused", format!("{w:?} {p:?}"));
+        t.refusal(10, number(&b.process_stride_buffer(&input, &mut y, 0, q)));
+        t.stays("the field", &w, &b.words());
+        t.stays("the place", &out, &y);
+        let (mut state, mut z, bad) = (w, out_2.clone(), unknown(n));
+        let (l, o) = (input.len(), out.len());
+        let (i, yp, zp) = (input.as_ptr(), y.as_mut_ptr(), z.as_mut_ptr());
+        let (mut o1, mut o2) = (3.0f32, 4.0f32);
+        unsafe {
+            t.refusal(UNKNOWN, ffi::svf_process(&mut state, 1.0, bad, &mut o1));
+            t.refusal(
+                UNKNOWN,
+                ffi::svf_process_dual(&mut state, 1.0, &mut o1, &mut o2, bad, k as u8),
+            );
+            t.refusal(
+                UNKNOWN,
+                ffi::svf_process_dual(&mut state, 1.0, &mut o1, &mut o2, k as u8, bad),
+            );
+            t.refusal(
+                UNKNOWN,
+                ffi::svf_process_buffer(&mut state, i, l, yp, o, bad),
+            );
+            t.refusal(
+                UNKNOWN,
+                ffi::svf_process_add_buffer(&mut state, i, l, yp, o, 1.0, bad),
+            );
+            t.refusal(
+                UNKNOWN,
+                ffi::svf_process_stride_buffer(&mut state, i, l, yp, o, 0, bad),
+            );
+            t.refusal(
+                UNKNOWN,
+                ffi::svf_process_add_dual_buffer(
+                    &mut state,
+                    i,
+                    l,
+                    yp,
+                    o,
+                    zp,
+                    z.len(),
+                    1.0,
+                    1.0,
+                    bad,
+                ),
+            );
+            t.refusal(UNKNOWN, ffi::svf_set_f_q(&mut state, -1.0, 1.0, bad));
+            t.refusal(11, ffi::svf_set_f_q(&mut state, -1.0, 1.0, 0));
+        }
+        t.stays("the field", &w, &state);
+        t.stays("the output", &[3.0, 4.0], &[o1, o2]);
+        t.stays("the place", &out, &y);
+        t.stays("the second place", &out_2, &z);
+    }
+}
+
+fn naive(n: &mut Numbers, t: &mut Tally, tame: bool) {
+    let w = n.words::<4>(tame);
+    same!(t, NaiveSvf, w, "init", init());
+    same!(t, NaiveSvf, w, "reset", reset());
+    let (a, b) = pair!(NaiveSvf, w);
+    t.at("NaiveSvf::lp, bp", format!("{w:?}"));
+    t.words("lp, bp", &[a.lp(), a.bp()], &[b.lp(), b.bp()]);
+    for (p, q) in APPROXIMATIONS {
+        let (f, resonance) = (n.any(), n.any());
+        let refusal = frequency_refusal(f, p);
+        let (mut a, mut b) = pair!(NaiveSvf, w);
+        t.at(
+            "NaiveSvf::set_f_q",
+            format!("{w:?} {f:?} {resonance:?} {p:?}"),
+        );
+        t.refusal(refusal, number(&b.set_f_q(f, resonance, q)));
+        if refusal == 0 {
+            a.set_f_q(f, resonance, p);
+            t.words("the field", &a.words(), &b.words());
+        } else {
+            t.stays("the field", &w, &b.words());
+        }
+    }
+    for (k, (p, q)) in MODES.into_iter().enumerate() {
+        let (mut a, mut b) = pair!(NaiveSvf, w);
+        t.at("NaiveSvf::process", format!("{w:?} {p:?}"));
+        for _ in 0..8 {
+            let x = n.value(tame);
+            t.words("the output", &[a.process(x, p)], &[b.process(x, q)]);
+            t.words("the field", &a.words(), &b.words());
+        }
+        let input = {
+            let l = n.length();
+            n.buffer(l, tame)
+        };
+        let out = {
+            let l = n.length();
+            n.buffer(l, false)
+        };
+        let high = {
+            let l = n.length();
+            n.buffer(l, false)
+        };
+
+        let (mut a, mut b) = pair!(NaiveSvf, w);
+        let (mut x, mut y) = (out.clone(), out.clone());
+        t.at(
+            "NaiveSvf::process_buffer",
+            format!("{w:?} {p:?} {} in, {} out", input.len(), out.len()),
+        );
+        a.process_buffer(&input, &mut x, p);
+        b.process_buffer(&input, &mut y, q);
+        t.words("the place", &x, &y);
+        t.words("the field", &a.words(), &b.words());
+
+        let (mut a, mut b) = pair!(NaiveSvf, w);
+        let (mut x, mut y, mut x2, mut y2) = (out.clone(), out.clone(), high.clone(), high.clone());
+        t.at(
+            "NaiveSvf::split",
+            format!(
+                "{w:?} {} in, {} low, {} high",
+                input.len(),
+                out.len(),
+                high.len()
+            ),
+        );
+        a.split(&input, &mut x, &mut x2);
+        b.split(&input, &mut y, &mut y2);
+        t.words("the low place", &x, &y);
+        t.words("the high place", &x2, &y2);
+        t.words("the field", &a.words(), &b.words());
+
+        let (mut a, mut b) = pair!(NaiveSvf, w);
+        let (mut x, mut y) = (out.clone(), out.clone());
+        let decimate = n.step(input.len().min(out.len()));
+        t.at(
+            "NaiveSvf::process_decimate",
+            format!(
+                "{w:?} {p:?} {decimate} {} in, {} out",
+                input.len(),
+                out.len()
+            ),
+        );
+        a.process_decimate(&input, &mut x, decimate, p);
+        t.refusal(0, number(&b.process_decimate(&input, &mut y, decimate, q)));
+        t.words("the place", &x, &y);
+        t.words("the field", &a.words(), &b.words());
+
+        let mut b = proved::NaiveSvf::of_words(w);
+        let mut y = out.clone();
+        t.at("NaiveSvf, refused", format!("{w:?} {p:?}"));
+        t.refusal(10, number(&b.process_decimate(&input, &mut y, 0, q)));
+        t.stays("the field", &w, &b.words());
+        let (mut state, mut o1, bad) = (w, 3.0f32, unknown(n));
+        let (l, o, i, yp) = (input.len(), out.len(), input.as_ptr(), y.as_mut_ptr());
+        unsafe {
+            t.refusal(
+                UNKNOWN,
+                ffi::naive_svf_process(&mut state, 1.0, bad, &mut o1),
+            );
+            t.refusal(
+                UNKNOWN,
+                ffi::naive_svf_process_buffer(&mut state, i, l, yp, o, bad),
+            );
+            t.refusal(
+                UNKNOWN,
+                ffi::naive_svf_process_decimate(&mut state, i, l, yp, o, k, bad),
+            );
+            t.refusal(UNKNOWN, ffi::naive_svf_set_f_q(&mut state, -1.0, 1.0, bad));
+            t.refusal(11, ffi::naive_svf_set_f_q(&mut state, -1.0, 1.0, 0));
+        }
+        t.stays("the field", &w, &state);
+        t.stays("the output", &[3.0], &[o1]);
+        t.stays("the place", &out, &y);
+    }
+}
+
+macro_rules! chamberlin {
+    ($fn:ident, $type:ident, $words:literal, $process:path) => {
+        fn $fn(n: &mut Numbers, t: &mut Tally, tame: bool) {
+            let w = n.words::<$words>(tame);
+            same!(t, $type, w, "init", init());
+            same!(t, $type, w, "reset", reset());
+            let (f, fq) = (n.any(), n.any());
+            same!(t, $type, w, "set_f_fq", set_f_fq(f, fq));
+            for (p, q) in MODES {
+                let input = {
+                    let l = n.length();
+                    n.buffer(l, tame)
+                };
+                let out = {
+                    let l = n.length();
+                    n.buffer(l, false)
+                };
+                let (mut a, mut b) = pair!($type, w);
+                let (mut x, mut y) = (out.clone(), out.clone());
+                t.at(
+                    concat!(stringify!($type), "::process"),
+                    format!("{w:?} {p:?} {} in, {} out", input.len(), out.len()),
+                );
+                a.process(&input, &mut x, p);
+                b.process(&input, &mut y, q);
+                t.words("the place", &x, &y);
+                t.words("the field", &a.words(), &b.words());
+
+                let (mut state, mut y, bad) = (w, out.clone(), unknown(n));
+                t.at(
+                    concat!(stringify!($type), ", refused"),
+                    format!("{w:?} {bad}"),
+                );
+                t.refusal(UNKNOWN, unsafe {
+                    $process(
+                        &mut state,
+                        input.as_ptr(),
+                        input.len(),
+                        y.as_mut_ptr(),
+                        y.len(),
+                        bad,
+                    )
+                });
+                t.stays("the field", &w, &state);
+                t.stays("the place", &out, &y);
+            }
+        }
+    };
+}
+
+chamberlin!(modified, ModifiedSvf, 5, ffi::modified_svf_process);
+chamberlin!(crossover, CrossoverSvf, 8, ffi::crossover_svf_process);
+
+fn random(seed: u64, rounds: u64) {
+    let start = Instant::now();
+    let mut n = Numbers(seed);
+    let mut t = Tally {
+        counts: BTreeMap::new(),
+        method: "",
+        what: String::new(),
+    };
+    news(&mut t);
+    for round in 0..rounds {
+        let tame = round % 2 == 0;
+        dc_blocker(&mut n, &mut t, tame);
+        one_pole(&mut n, &mut t, tame);
+        svf(&mut n, &mut t, tame);
+        naive(&mut n, &mut t, tame);
+        modified(&mut n, &mut t, tame);
+        crossover(&mut n, &mut t, tame);
+    }
+    for (method, count) in &t.counts {
+        println!("{method:32} {count:>10}");
+    }
+    let total: u64 = t.counts.values().sum();
+    println!(
+        "compare: {total} values equal, {} rows, seed {seed}, {:.1} s",
+        t.counts.len(),
+        start.elapsed().as_secs_f64()
+    );
+}
+
+// All words in one approximation: the source's answer, or the refusal where Exact gets an f below 0.
+fn every_word(
+    name: &str,
+    exact: bool,
+    ours: impl Fn(f32) -> Result<f32, Refusal> + Sync,
+    theirs: impl Fn(f32) -> f32 + Sync,
+) -> u64 {
+    let start = Instant::now();
+    let half = |from: u64, to: u64| {
+        let mut refused = 0u64;
+        for word in from..to {
+            let f = f32::from_bits(word as u32);
+            let got = ours(f);
+            let right = if exact && f < 0.0 {
+                refused += 1;
+                got == Err(Refusal::Frequency)
+            } else {
+                matches!(got, Ok(x) if bits(x) == bits(theirs(f)))
+            };
+            if !right {
+                println!("{name} at {word:08x}: {got:?}, the source {:?}", theirs(f));
+                std::process::exit(1);
+            }
+        }
+        refused
+    };
+    // Each half has words of both signs, so that the threads end together.
+    let quarter = 1u64 << 30;
+    let refused = std::thread::scope(|s| {
+        let other = s.spawn(|| half(quarter, 2 * quarter) + half(3 * quarter, 4 * quarter));
+        half(0, quarter) + half(2 * quarter, 3 * quarter) + other.join().unwrap()
+    });
+    println!(
+        "{name}: 4294967296 words, of them {refused} refused, {:.0} s",
+        start.elapsed().as_secs_f64()
+    );
+    1 << 32
+}
+
+fn full() {
+    let start = Instant::now();
+    let mut total = 0;
+    for (p, q) in APPROXIMATIONS {
+        let exact = p == oracle::FrequencyApproximation::Exact;
+        total += every_word(
+            &format!("OnePole::tan {p:?}"),
+            exact,
+            |f| proved::OnePole::tan(f, q),
+            |f| oracle::OnePole::tan(f, p),
+        );
+        total += every_word(
+            &format!("NaiveSvf::set_f_q {p:?}"),
+            exact,
+            |f| {
+                let mut s = proved::NaiveSvf::of_words([0.0; 4]);
+                s.set_f_q(f, 1.0, q)?;
+                Ok(s.words()[0])
+            },
+            |f| {
+                let mut s = oracle::NaiveSvf::of_words([0.0; 4]);
+                s.set_f_q(f, 1.0, p);
+                s.words()[0]
+            },
+        );
+    }
+    println!(
+        "compare: {total} values equal, {:.0} s",
+        start.elapsed().as_secs_f64()
+    );
+}
+
+fn main() {
+    let args: Vec<String> = std::env::args().skip(1).collect();
+    let (mut seed, mut rounds) = (1, 60_000);
+    let mut rest = args.iter();
+    while let Some(arg) = rest.next() {
+        let mut value = || rest.next().and_then(|v| v.parse().ok()).expect("a number");
+        match arg.as_str() {
+            "--full" => return full(),
+            "--seed" => seed = value(),
+            "--rounds" => rounds = value(),
+            _ => panic!("compare [--seed N] [--rounds N] | compare --full"),
+        }
+    }
+    random(seed, rounds);
+}
