@@ -18,7 +18,7 @@ use Rattle.runs.specs.Form.{runRefusal, runTwoRefusal}
 use Rattle.runs.specs.declared.RunForm.{RunForm}
 use Rattle.loads.specs.Load.{filterOf}
 use Rattle.frame.specs.Table.{table}
-use Rattle.frame.specs.Calls.{Turn, refuse, accept, unless, emptySnapshot, noHead, headAt, holding, numberIn, answerIn, firstIn, secondIn, frameIn, answered, loadTurn, runTurn, runTwoTurn, restTurn, markTurn, backTurn, dropTurn, marksBelow, onlyIf, atHead, freshFrame, openOf, loadOf, runOf, runTwoOf, restOf, markOf, backOf, dropOf, writeFrameOf}
+use Rattle.frame.specs.Calls.{Turn, refuse, accept, unless, emptySnapshot, noHead, headAt, holding, numberIn, answerIn, firstIn, secondIn, frameIn, answered, loadTurn, runTurn, runTwoTurn, restTurn, markTurn, backTurn, dropTurn, backHead, dropHead, marksBelow, onlyIf, atHead, freshFrame, openOf, loadOf, runOf, runTwoOf, restOf, markOf, backOf, dropOf, writeFrameOf}
 use Rattle.frame.specs.History.{Act, load, run, runTwo, rest, mark, back, drop, Call, opening, writing, at, Event, loadEvent, runEvent, restEvent, HeadHistory, Histories, noHistories, unlessBare, sortOf, actNumber, callNumber, grownBy, changedAt, grown, advance, slotWith, slotFrom, slotOf, firstFrom, secondFrom, actAnswer, actFirst, actSecond, accepted, lentFirst, lentSecond, refused, replyTo}
 use Rattle.frame.specs.Demand.{Done, plainly, runDone, runTwoDone, markDone, writeDone, perform, snapshotOf}
 use Rattle.frame.proofs.Tables.{getD-table, table-ext, set-table}
@@ -122,16 +122,14 @@ marks-cut r k =
     ∙ cond-out snapshotOf (ltb i k) (getD r i []) [] ∙ ap snapshotOf (sym (getD-cut k r i [])))
 
 module _ (s : List ℕ) (x : HeadHistory) (m : ℕ) (four : length (x .checkpoints) ≤ 4) where
-  back-head : m < length (x .checkpoints)
-      → _≡_ {A = Head}
-      (record { now = getD (headFor x .marks) m emptySnapshot; marks = marksBelow (m + 1) (headFor x .marks); marked = m + 1 })
-      (headFor (grownBy s x (back m)))
-  back-head h =
+  back-pictured : m < length (x .checkpoints)
+      → backHead (headFor x) m (marksBelow (m + 1) (headFor x .marks)) ≡ headFor (grownBy s x (back m))
+  back-pictured h =
       rw (getD-table 4 (λ i. snapshotOf (getD (x .checkpoints) i [])) m emptySnapshot (omega arith), marks-cut (x .checkpoints) (m + 1), length-take-le (m + 1) (x .checkpoints) (omega arith))
 
-  drop-head : m < length (x .checkpoints)
-      → _≡_ {A = Head} (record { now = headFor x .now; marks = marksBelow m (headFor x .marks); marked = m }) (headFor (grownBy s x (drop m)))
-  drop-head h = rw (marks-cut (x .checkpoints) m, length-take-le m (x .checkpoints) (omega arith))
+  drop-pictured : m < length (x .checkpoints)
+      → dropHead (headFor x) m (marksBelow m (headFor x .marks)) ≡ headFor (grownBy s x (drop m))
+  drop-pictured h = rw (marks-cut (x .checkpoints) m, length-take-le m (x .checkpoints) (omega arith))
 
   -- the tests of back and drop, of which the second never refuses a picture
   there : {y z : Head} → (m < length (x .checkpoints) → y ≡ z)
@@ -151,8 +149,8 @@ act-turn s x (run form us ys) sound S = rw (← S .good, slot-snoc) (run-slot (h
 act-turn s x (runTwo form us ys zs) sound S = rw (← S .good, slot-snoc) (two-slot (headFor x) (slotOf (x .history)) form us ys zs)
 act-turn s x rest sound S = rw (← S .good, slot-snoc) (rest-slot (headFor x) (slotOf (x .history)))
 act-turn s x mark sound S = rw (← S .good, length-append, ← marks-snoc (x .checkpoints) (x .history)) (mark-slot (headFor x) (slotOf (x .history)))
-act-turn s x (back m) sound S = there s x m (S .four) (back-head s x m (S .four))
-act-turn s x (drop m) sound S = there s x m (S .four) (drop-head s x m (S .four))
+act-turn s x (back m) sound S = there s x m (S .four) (back-pictured s x m (S .four))
+act-turn s x (drop m) sound S = there s x m (S .four) (drop-pictured s x m (S .four))
 
 -- ---- a turn in a frame
 

@@ -4,11 +4,11 @@ use mathlib.Core.Path.{_≡_, ap}
 use mathlib.Core.List.{List}
 use borrow.Author.Needs.{needs}
 use borrow.Author.Tests.{lt-ltb, le-ltb, le-leb, lt-leb}
-use lib.ListN.{getD, set}
+use lib.ListN.{set}
 use lib.Ieee.{Float}
 use Rattle.filter_core.specs.Buffer.{within}
 use Rattle.filter_core.proofs.Refusals.{refusing, accepting}
-use Rattle.library.specs.Library.{readOf, entryAt, writeOf, writtenOf}
+use Rattle.library.specs.Library.{readOf, writeOf, writtenOf}
 use Rattle.library.specs.declared.Reading.{Reading}
 use Rattle.library.specs.declared.Written.{Written}
 use Rattle.library.specs.declared.entry.Entry.{Entry}
@@ -17,7 +17,7 @@ use Rattle.runs.specs.Run.{RunAnswer, RunTwoAnswer}
 use Rattle.runs.specs.declared.Filter.{Filter}
 use Rattle.runs.specs.declared.RunForm.{RunForm}
 use Rattle.loads.specs.Load.{filterOf}
-use Rattle.frame.specs.Calls.{emptySnapshot, emptyHead, headAt, holding, marksBelow, openOf, loadOf, runOf, runTwoOf, restOf, markOf, backOf, dropOf, writeFrameOf, showOf}
+use Rattle.frame.specs.Calls.{loadedEntry, lastMark, nextMark, markedHead, backHead, dropHead, emptyHead, headAt, holding, marksBelow, openOf, loadOf, runOf, runTwoOf, restOf, markOf, backOf, dropOf, writeFrameOf, showOf}
 use Rattle.frame.specs.declared.Slot.the-variants.{Empty, Holds}
 use Rattle.frame.specs.declared.Snapshot.{Snapshot}
 use Rattle.frame.specs.declared.Head.{Head}
@@ -56,7 +56,7 @@ module _ (f : Frame) (h e : ℕ) where
   unfolding loadOf
   load-entry l m = rw (le-ltb _ _ l, le-leb _ _ m)
 
-  pub load-accepted : (g : Filter) (t : Entry) → h ≤ 11 → e < f .library .n → t ≡ entryAt (f .library) e → g ≡ filterOf t
+  pub load-accepted : (g : Filter) (t : Entry) → h ≤ 11 → e < f .library .n → t ≡ loadedEntry (f .library) e → g ≡ filterOf t
       → acceptedWith f h (holding (headAt f h) (Holds g)) ≡ loadOf f h e
   unfolding loadOf
   load-accepted g t l m p q = rw (le-ltb _ _ l, lt-leb _ _ m, q, p)
@@ -131,23 +131,13 @@ module _ (f : Frame) (h : ℕ) where
   unfolding markOf
   mark-bare l e = rw (le-ltb _ _ l, e)
 
-  pub mark-full : (p : Filter) → h ≤ 11 → headAt f h .now .slot ≡ Holds p → 3 < headAt f h .marked → _≡_ {A = Marked} (record { number = 8; mark = 0; frame = f }) (markOf f h)
+  pub mark-full : (p : Filter) → h ≤ 11 → headAt f h .now .slot ≡ Holds p → lastMark < headAt f h .marked → _≡_ {A = Marked} (record { number = 8; mark = 0; frame = f }) (markOf f h)
   unfolding markOf
   mark-full p l e m = rw (le-ltb _ _ l, e, lt-ltb _ _ m)
 
-  pub mark-accepted : (p : Filter) → h ≤ 11 → headAt f h .now .slot ≡ Holds p → headAt f h .marked ≤ 3
+  pub mark-accepted : (p : Filter) → h ≤ 11 → headAt f h .now .slot ≡ Holds p → headAt f h .marked ≤ lastMark
       → _≡_ {A = Marked}
-      (record {
-        number = 0;
-        mark = headAt f h .marked;
-        frame =
-            withHead f h
-            (record {
-              now = headAt f h .now;
-              marks = set (headAt f h .marks) (headAt f h .marked) (headAt f h .now);
-              marked = headAt f h .marked + 1;
-            });
-      })
+      (record { number = 0; mark = nextMark (headAt f h); frame = withHead f h (markedHead (headAt f h)) })
       (markOf f h)
   unfolding markOf
   mark-accepted p l e m = rw (le-ltb _ _ l, e, le-ltb _ _ m)
@@ -174,7 +164,7 @@ module _ (f : Frame) (h m : ℕ) where
   back-past l n k = rw (le-ltb _ _ l, lt-leb _ _ n, lt-ltb _ _ k)
 
   pub back-accepted : (ms : List Snapshot) → h ≤ 11 → m < headAt f h .marked → m ≤ 3 → ms ≡ marksBelow (m + 1) (headAt f h .marks)
-      → acceptedWith f h (record { now = getD (headAt f h .marks) m emptySnapshot; marks = ms; marked = m + 1 }) ≡ backOf f h m
+      → acceptedWith f h (backHead (headAt f h) m ms) ≡ backOf f h m
   unfolding backOf
   back-accepted ms l n k e = rw (le-ltb _ _ l, lt-leb _ _ n, le-ltb _ _ k, e)
 
@@ -191,7 +181,7 @@ module _ (f : Frame) (h m : ℕ) where
   drop-past l n k = rw (le-ltb _ _ l, lt-leb _ _ n, lt-ltb _ _ k)
 
   pub drop-accepted : (ms : List Snapshot) → h ≤ 11 → m < headAt f h .marked → m ≤ 3 → ms ≡ marksBelow m (headAt f h .marks)
-      → acceptedWith f h (record { now = headAt f h .now; marks = ms; marked = m }) ≡ dropOf f h m
+      → acceptedWith f h (dropHead (headAt f h) m ms) ≡ dropOf f h m
   unfolding dropOf
   drop-accepted ms l n k e = rw (le-ltb _ _ l, lt-leb _ _ n, le-ltb _ _ k, e)
 

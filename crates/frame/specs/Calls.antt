@@ -10,6 +10,7 @@ use Rattle.sheets.specs.Refusal.{_then_}
 use Rattle.sheets.specs.Sheet.{checkOf}
 use Rattle.library.specs.Library.{none, libraryOf, entryAt, writeOf, writtenOf}
 use Rattle.library.specs.declared.Library.{Library}
+use Rattle.library.specs.declared.entry.Entry.{Entry}
 use Rattle.runs.specs.Kind.{kindOf, rested}
 use Rattle.runs.specs.Form.{runRefusal, runTwoRefusal}
 use Rattle.runs.specs.Run.{through, firstOutput, secondOutput}
@@ -79,9 +80,11 @@ answered f h t = record { number = numberIn t; frame = frameIn t f h }
 abbrev pub unless : ℕ → Turn → Turn
 unless n t = cond (eqb n 0) t (refuse n)
 
--- no library of a sheet has an entry above 63
+abbrev pub loadedEntry : Library → ℕ → Entry
+loadedEntry l e = entryAt l e
+
 abbrev pub loadTurn : Library → Head → ℕ → Turn
-loadTurn l x e = cond (leb (l .n) e) (refuse 5) (accept 0 [] [] (holding x (Holds (filterOf (entryAt l e)))))
+loadTurn l x e = cond (leb (l .n) e) (refuse 5) (accept 0 [] [] (holding x (Holds (filterOf (loadedEntry l e)))))
 
 abbrev pub runTurn : Head → Slot → RunForm → List Float → List Float → Turn
 runTurn x Empty form us ys = refuse 6
@@ -98,11 +101,20 @@ abbrev pub restTurn : Head → Slot → Turn
 restTurn x Empty = refuse 6
 restTurn x (Holds f) = accept 0 [] [] (holding x (Holds (rested f)))
 
+-- a head with a mark above this has four
+abbrev pub lastMark : ℕ
+lastMark = 3
+
+-- the number of the mark that a head gets next
+abbrev pub nextMark : Head → ℕ
+nextMark x = x .marked
+
+abbrev pub markedHead : Head → Head
+markedHead x = record { now = x .now; marks = set (x .marks) (x .marked) (x .now); marked = x .marked + 1 }
+
 abbrev pub markTurn : Head → Slot → Turn
 markTurn x Empty = refuse 6
-markTurn x (Holds f) =
-    cond (ltb 3 (x .marked)) (refuse 8)
-    (accept (x .marked) [] [] (record { now = x .now; marks = set (x .marks) (x .marked) (x .now); marked = x .marked + 1 }))
+markTurn x (Holds f) = cond (ltb lastMark (x .marked)) (refuse 8) (accept (nextMark x) [] [] (markedHead x))
 
 abbrev pub onlyIf : Bool → Snapshot → Snapshot
 onlyIf b s = cond b s emptySnapshot
@@ -111,17 +123,22 @@ onlyIf b s = cond b s emptySnapshot
 abbrev pub marksBelow : ℕ → List Snapshot → List Snapshot
 marksBelow k marks = table 4 (λ i. onlyIf (ltb i k) (getD marks i emptySnapshot))
 
+-- the head after back m and after drop m, where ms are the marks that stay
+
+abbrev pub backHead : Head → ℕ → List Snapshot → Head
+backHead x m ms = record { now = getD (x .marks) m emptySnapshot; marks = ms; marked = m + 1 }
+
+abbrev pub dropHead : Head → ℕ → List Snapshot → Head
+dropHead x m ms = record { now = x .now; marks = ms; marked = m }
+
+-- no head has a mark above 3, so the second test refuses none that stands
+
 abbrev pub backTurn : Head → ℕ → Turn
 backTurn x m =
-    cond (leb (x .marked) m) (refuse 7)
-    (cond (ltb 3 m) (refuse 7)
-    (accept 0 [] [] (record { now = getD (x .marks) m emptySnapshot; marks = marksBelow (m + 1) (x .marks); marked = m + 1 })))
+    cond (leb (x .marked) m) (refuse 7) (cond (ltb 3 m) (refuse 7) (accept 0 [] [] (backHead x m (marksBelow (m + 1) (x .marks)))))
 
 abbrev pub dropTurn : Head → ℕ → Turn
-dropTurn x m =
-    cond (leb (x .marked) m) (refuse 7)
-    (cond (ltb 3 m) (refuse 7)
-    (accept 0 [] [] (record { now = x .now; marks = marksBelow m (x .marks); marked = m })))
+dropTurn x m = cond (leb (x .marked) m) (refuse 7) (cond (ltb 3 m) (refuse 7) (accept 0 [] [] (dropHead x m (marksBelow m (x .marks)))))
 
 -- a head above 11 is refused first
 abbrev pub atHead : ℕ → Turn → Turn
