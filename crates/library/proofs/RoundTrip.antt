@@ -3,7 +3,7 @@ use Prim.Native.Nat.{ℕ, zero, suc, _+_, _*_, _-_, _%_, _/_, _≤_, _<_}
 use mathlib.Core.Path.{_≡_, refl, sym, ap, _∙_}
 use mathlib.Core.List.{List, [], _∷_, _++_}
 use native.Mathlib.Omega.{arith}
-use borrow.Author.Tests.{eq-eqb, le-ltb}
+use borrow.Author.Tests.{ne-eqb, le-ltb}
 use lib.ListN.{length, getD, take, drop, length-take, length-drop, take-append-drop}
 use lib.Seq.{take-all, take-length, take-take, take-append-seam, drop-drop, getD-take, getD-drop}
 use Rattle.words.specs.Word.{wordFrom}
@@ -12,10 +12,10 @@ use Rattle.sheets.specs.Rows.{Sheet}
 use Rattle.sheets.proofs.Rows.{sheet-check}
 use Rattle.library.specs.Entry.{entryOf}
 use Rattle.library.specs.Library.{over, zeros, none, libraryOf, readOf, bytesOf, settingIn, entryAt, writeRefusal, writeOf, writtenOf}
-use Rattle.library.specs.RoundTrip.{Rewritten, ReadWrite, WriteRead, OneSheet, Same, SameEntries}
+use Rattle.library.specs.RoundTrip.{Rewritten, ReadWrite, WriteRead, RefusedWrite, OneSheet, Same, SameEntries}
 use Rattle.library.specs.declared.Written.{Written}
 use Rattle.library.specs.declared.Reading.{Reading}
-use Rattle.library.proofs.Copies.{length-zeros, over-front}
+use Rattle.library.proofs.Copies.{length-zeros, over-none, over-front}
 
 -- ---- lists
 
@@ -93,6 +93,9 @@ module _ (s : List ℕ) (h : Sheet s) where
   reread out r =
       let w : take (length s) (writtenOf (libraryOf s) out) ≡ s = rw (rewritten out r .bytes) (take-append-seam s (drop (length s) out)) in
       ap readOf w ∙ rw (sheet-check s h) refl
+
+pub refused-write : RefusedWrite
+refused-write l out z = rw (ne-eqb (writeRefusal (l .n) (length out)) 0 z) (over-none 0 out)
 
 pub one-sheet : OneSheet
 one-sheet s t h k e = sym (bytes-in s (h .size)) ∙ ap bytesOf e ∙ bytes-in t (k .size)
