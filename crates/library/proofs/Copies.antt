@@ -9,9 +9,13 @@ use native.Mathlib.Omega.{arith}
 use borrow.Author.Needs.{needs}
 use borrow.Author.Tests.{ltb-true, ltb-false}
 use lib.Dec.{ltb}
-use lib.ListN.{length, getD, set, take, drop, length-set}
+use lib.ListN.{length, getD, set, take, drop, length-set, length-replicate}
 use lib.Seq.{take-all}
-use Rattle.library.specs.Library.{over}
+use Rattle.library.specs.Library.{over, zeros}
+
+pub length-zeros : (m : ℕ) → length (zeros m) ≡ m
+unfolding zeros
+length-zeros m = length-replicate m 0
 
 pub length-over : (at : ℕ) (xs ys : List ℕ) → length (over at xs ys) ≡ length ys
 unfolding over

@@ -7,12 +7,12 @@ use native.Mathlib.Omega.{arith}
 use borrow.Author.Needs.{needs, length-unmapped}
 use borrow.Author.Tests.{ltb-false, eqb-true}
 use lib.Dec.{eqb, ltb}
-use lib.ListN.{length, getD, set, take, drop, length-append, length-replicate}
+use lib.ListN.{length, getD, set, take, drop, length-append}
 use lib.Seq.{length-take-le}
 use Rattle.library.specs.Library.{over, zeros, bytesOf, writeRefusal, writtenLength, writeOf, writtenOf}
 use Rattle.library.specs.declared.Library.{Library}
 use Rattle.library.specs.declared.Written.{Written}
-use Rattle.library.proofs.Copies.{over-append, over-front}
+use Rattle.library.proofs.Copies.{length-zeros, over-append, over-front}
 
 -- the arrays have room for as many as 64 entries
 module _ (l : List ℕ) (n : ℕ) (h : n ≤ 64) where
@@ -85,7 +85,7 @@ module _ (l : Library) (k : length (map (λ (v : ℕ). v) (l .kinds)) ≡ 64) (s
           let w : m ≡ 2 + 13 * n = q ∙ rw t refl in
           let a : 2 + 13 * n ≤ length (bytesOf l) = omega (arith, length-bytes l (length-unmapped ℕ (l .kinds) 64 k) (length-unmapped ℕ (l .settings) 768 s) h) in
           let f : take (2 + 13 * n) (over 0 (bytesOf l) (zeros 834)) ≡ take (2 + 13 * n) (bytesOf l) =
-          over-front (2 + 13 * n) (bytesOf l) (zeros 834) a (omega (arith, length-replicate {A = ℕ} 834 0)) in
+          over-front (2 + 13 * n) (bytesOf l) (zeros 834) a (omega (arith, length-zeros 834)) in
           e ∙ rw (w, b h, f, ← p, t) refl
       go false t = let w : m ≡ 0 = q ∙ rw t refl in e ∙ rw (w, ← p, t) refl
 

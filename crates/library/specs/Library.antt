@@ -21,7 +21,7 @@ over zero [] ys = ys
 over zero (x ∷ xs) [] = []
 over zero (x ∷ xs) (y ∷ ys) = x ∷ over 0 xs ys
 
-abbrev pub zeros : ℕ → List ℕ
+unfoldable pub zeros : ℕ → List ℕ
 zeros m = replicate m 0
 
 -- ---- reading

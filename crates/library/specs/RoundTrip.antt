@@ -6,6 +6,7 @@ use lib.ListN.{length, take, drop}
 use Rattle.sheets.specs.Sheet.{entriesOf, kindAt, wordAt}
 use Rattle.sheets.specs.Rows.{Sheet}
 use Rattle.library.specs.Entry.{entryOf}
+use Rattle.library.specs.declared.Library.{Library}
 use Rattle.library.specs.Library.{libraryOf, readOf, entryAt, writeOf, writtenOf}
 
 -- a sheet is read, and its library written to an output that has room: the sheet's bytes, and what stood behind them
@@ -19,6 +20,10 @@ ReadWrite = (s out : List ℕ) → Sheet s → length s ≤ length out → Rewri
 -- a library of a sheet is written, and what was written is read: the same library
 abbrev pub WriteRead : Type 0
 WriteRead = (s out : List ℕ) → Sheet s → length s ≤ length out → readOf (take (length s) (writtenOf (libraryOf s) out)) ≡ record { number = 0; library = libraryOf s }
+
+-- a refused write leaves every byte
+abbrev pub RefusedWrite : Type 0
+RefusedWrite = (l : Library) (out : List ℕ) → (writeOf l out .number ≡ 0 → ⊥) → writtenOf l out ≡ out
 
 -- two sheets of one library are one sheet
 abbrev pub OneSheet : Type 0

@@ -7,7 +7,7 @@ ghost use mathlib.Core.Path.{_≡_};
 ghost use Prim.Native.Nat.{_%_, _≤_};
 ghost use lib.ListN.{length};
 ghost use Rattle.library.specs.Library.{over, zeros, none, readOf, bytesOf, writeRefusal, writtenLength, writeOf, writtenOf, entryAt};
-ghost use Rattle.library.specs.RoundTrip.{ReadWrite, WriteRead, OneSheet, SameEntries};
+ghost use Rattle.library.specs.RoundTrip.{ReadWrite, WriteRead, RefusedWrite, OneSheet, SameEntries};
 
 // The places of `kinds` and `settings` past the n entries are zeros, so a library is one value.
 pub struct Library {
@@ -161,6 +161,11 @@ pub fn read_write()
 // Writing a sheet's library and reading it gives the library.
 pub fn write_read()
     ensures { λ _. ⌜ WriteRead ⌝ }
+{}
+
+// A refused write leaves every byte of the output.
+pub fn refused_write()
+    ensures { λ _. ⌜ RefusedWrite ⌝ }
 {}
 
 // Two different sheets are never the same library.

@@ -8,6 +8,7 @@ returns : tie.Need-returns
 returns c = λ h. absurd (omega arith)
 
 returns-2 : tie.Need-returns-2
+unfolding zeros
 returns-2 c =
     λ h.
     put-together (c .before .before .before .before .before .before .before .before .before .before .before .before .before .args .library) (zeros 834) (search writings) h (c .before .before .before .before .before .before .before .before .before .before .before .low-byte .ensures) (c .before .before .before .before .before .before .before .before .before .before .low-byte2 .ensures)
