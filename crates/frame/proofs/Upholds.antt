@@ -45,6 +45,7 @@ upheld H cs S =
           λ h l e. no-events (advanceAll H cs .heads h .history) (r .sound .each h .good)
           (rw (r .frame, getD-table 12 (λ j. headFor (advanceAll H cs .heads j)) h noHead l) at e);
       bare = λ h l e. rw (r .frame, getD-table 12 (λ j. headFor (advanceAll H cs .heads j)) h noHead l, e);
+      standing = λ h l. rw (r .frame, getD-table 12 (λ j. headFor (advanceAll H cs .heads j)) h noHead l);
       marks =
           λ h l. rw (r .frame, getD-table 12 (λ j. headFor (advanceAll H cs .heads j)) h noHead l)
           (take-table snapshotOf [] 4 (advanceAll H cs .heads h .checkpoints) (r .sound .each h .four));

@@ -2,7 +2,7 @@
 use Prim.Native.Nat.{ℕ, _<_}
 use mathlib.Core.Path.{_≡_}
 use mathlib.Core.List.{List, [], _∷_, map}
-use lib.ListN.{take}
+use lib.ListN.{length, take}
 use lib.Ieee.{Float}
 use Rattle.library.specs.Library.{libraryOf}
 use Rattle.frame.specs.Calls.{freshFrame, openOf, loadOf, runOf, runTwoOf, restOf, markOf, backOf, dropOf, writeFrameOf, headAt}
@@ -71,7 +71,8 @@ pub record Upheld (f : Frame) (H : Histories) (cs : List Call) : Type 0 where
   -- and is empty exactly when its history is
   pub empty : (h : ℕ) → h < 12 → headAt (frameAfter f cs) h .now .slot ≡ Empty → advanceAll H cs .heads h .history ≡ []
   pub bare : (h : ℕ) → h < 12 → advanceAll H cs .heads h .history ≡ [] → headAt (frameAfter f cs) h .now .slot ≡ Empty
-  -- its marks are those of its checkpoints, in order
+  -- its marks are those of its checkpoints, as many and in order
+  pub standing : (h : ℕ) → h < 12 → headAt (frameAfter f cs) h .marked ≡ length (advanceAll H cs .heads h .checkpoints)
   pub marks :
       (h : ℕ)
       → h < 12
