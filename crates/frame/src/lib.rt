@@ -119,7 +119,7 @@ impl Frame {
     }
 
     // Puts the filter of an entry into a head. The settings are copied; the marks stay.
-    pub fn load(self, head: usize, entry: usize) -> Answer
+    pub fn load(mut self, head: usize, entry: usize) -> Answer
         ensures { λ r. ⌜ r ≡ loadOf self head entry ⌝ }
     {
         if 11 < head {
@@ -142,20 +142,19 @@ impl Frame {
         let now = Snapshot {
             slot: Slot::Holds(filter),
         };
-        let mut next = self;
-        next.heads[head] = Head {
+        self.heads[head] = Head {
             now: now,
             marks: marks,
             marked: h.marked,
         };
         Answer {
             number: 0,
-            frame: next,
+            frame: self,
         }
     }
 
     // Runs a form with one output.
-    pub fn run(self, head: usize, form: RunForm, input: &[f32], out: &mut [f32]) -> Answer
+    pub fn run(mut self, head: usize, form: RunForm, input: &[f32], out: &mut [f32]) -> Answer
         ensures { λ r. ⌜ (r, now (out .exit)) ≡ runOf self head form (now (input .entry)) (now (out .entry)) ⌝ }
     {
         if 11 < head {
@@ -185,21 +184,20 @@ impl Frame {
         let now = Snapshot {
             slot: Slot::Holds(after),
         };
-        let mut next = self;
-        next.heads[head] = Head {
+        self.heads[head] = Head {
             now: now,
             marks: marks,
             marked: h.marked,
         };
         Answer {
             number: 0,
-            frame: next,
+            frame: self,
         }
     }
 
     // Runs a form with two outputs.
     pub fn run_two(
-        self,
+        mut self,
         head: usize,
         form: RunForm,
         input: &[f32],
@@ -235,20 +233,19 @@ impl Frame {
         let now = Snapshot {
             slot: Slot::Holds(after),
         };
-        let mut next = self;
-        next.heads[head] = Head {
+        self.heads[head] = Head {
             now: now,
             marks: marks,
             marked: h.marked,
         };
         Answer {
             number: 0,
-            frame: next,
+            frame: self,
         }
     }
 
     // Clears what a head's filter retains of past samples.
-    pub fn rest(self, head: usize) -> Answer
+    pub fn rest(mut self, head: usize) -> Answer
         ensures { λ r. ⌜ r ≡ restOf self head ⌝ }
     {
         if 11 < head {
@@ -270,20 +267,19 @@ impl Frame {
         let now = Snapshot {
             slot: Slot::Holds(runs::rest(filter)),
         };
-        let mut next = self;
-        next.heads[head] = Head {
+        self.heads[head] = Head {
             now: now,
             marks: marks,
             marked: h.marked,
         };
         Answer {
             number: 0,
-            frame: next,
+            frame: self,
         }
     }
 
     // Records a head, and answers the mark's number.
-    pub fn mark(self, head: usize) -> Marked
+    pub fn mark(mut self, head: usize) -> Marked
         ensures { λ r. ⌜ r ≡ markOf self head ⌝ }
     {
         if 11 < head {
@@ -313,8 +309,7 @@ impl Frame {
         }
         let mut marks = h.marks;
         marks[at] = held;
-        let mut next = self;
-        next.heads[head] = Head {
+        self.heads[head] = Head {
             now: held,
             marks: marks,
             marked: at + 1,
@@ -322,12 +317,12 @@ impl Frame {
         Marked {
             number: 0,
             mark: at,
-            frame: next,
+            frame: self,
         }
     }
 
     // Restores mark m, keeps it, and drops those above.
-    pub fn back(self, head: usize, m: usize) -> Answer
+    pub fn back(mut self, head: usize, m: usize) -> Answer
         ensures { λ r. ⌜ r ≡ backOf self head m ⌝ }
     {
         if 11 < head {
@@ -351,20 +346,19 @@ impl Frame {
         }
         let marks = h.marks;
         let old = marks[m];
-        let mut next = self;
-        next.heads[head] = Head {
+        self.heads[head] = Head {
             now: old,
             marks: marks_below(m + 1, marks),
             marked: m + 1,
         };
         Answer {
             number: 0,
-            frame: next,
+            frame: self,
         }
     }
 
     // Drops mark m and those above. The filter stays.
-    pub fn drop(self, head: usize, m: usize) -> Answer
+    pub fn drop(mut self, head: usize, m: usize) -> Answer
         ensures { λ r. ⌜ r ≡ dropOf self head m ⌝ }
     {
         if 11 < head {
@@ -388,15 +382,14 @@ impl Frame {
         }
         let held = h.now;
         let marks = h.marks;
-        let mut next = self;
-        next.heads[head] = Head {
+        self.heads[head] = Head {
             now: held,
             marks: marks_below(m, marks),
             marked: m,
         };
         Answer {
             number: 0,
-            frame: next,
+            frame: self,
         }
     }
 
