@@ -57,8 +57,7 @@ fn main() {
 // The filter goes round the outline twice, and what it answers in the second round counts: the outline has no start at which it could be
 // at rest.
 fn smooth(line: &[f32; 16], out: &mut [f32; 16]) {
-    let new = Svf::new();
-    let set = new.set_f_q(0.15, 0.7, FrequencyApproximation::Exact);
+    let set = Svf::new().set_f_q(0.15, 0.7, FrequencyApproximation::Exact);
     let f = set.filter;
     let round = f.process_buffer(line, out, FilterMode::LowPass);
     round.process_buffer(line, out, FilterMode::LowPass);
