@@ -1,0 +1,32 @@
+use mathlib.Core.Path.{refl}
+use lib.Ieee.{ofBits, add, sub, mul, div, neg, lt, le}
+use Rattle.one_pole.specs.Tangent.{accurateA, accurateB, accurateC, accurateD, accurateE}
+use Rattle.svf.specs.Svf.{svfNext, svfOut}
+use Rattle.modified_svf.specs.ModifiedSvf.{modifiedOut}
+use Rattle.crossover_svf.specs.CrossoverSvf.{crossoverOut}
+use Rattle.worked_examples.specs.Differences.{Differences}
+use Rattle.worked_examples.proofs.differences.Statement.{statement}
+use Rattle.worked_examples.proofs.differences.Tie as tie
+
+computed : Differences
+unfolding ofBits add sub mul div neg lt le accurateA accurateB accurateC accurateD accurateE svfNext svfOut modifiedOut crossoverOut
+computed =
+    record {
+      exact-quarter = refl;
+      accurate-quarter = refl;
+      gain-form-overwrites = refl;
+      high-at-half = refl;
+      band-at-half = refl;
+      low-at-half = refl;
+      modified-reset-keeps = refl;
+      modified-set-clears = refl;
+      crossover-reset-clears = refl;
+      crossover-set-keeps = refl;
+      step-zero = refl;
+      exact-below-zero = refl;
+      exact-at-minus-zero = refl;
+      accurate-below-zero = refl;
+    }
+
+pub differences-spec : {M : Type 1} → statement M
+differences-spec = tie.close (tie.spec (λ c. computed))

@@ -1,0 +1,31 @@
+use mathlib.Core.Path.{refl}
+use lib.Ieee.{ofBits, add, sub, mul, neg, lt}
+use Rattle.svf.specs.Svf.{svfNext, svfOut, svfMixed}
+use Rattle.naive_svf.specs.NaiveSvf.{naiveLow, naiveHigh, naiveNext, naiveOut}
+use Rattle.modified_svf.specs.ModifiedSvf.{modifiedNext, modifiedOut}
+use Rattle.crossover_svf.specs.CrossoverSvf.{crossoverNext, crossoverOut}
+use Rattle.worked_examples.specs.Examples.{WorkedExamples}
+use Rattle.worked_examples.proofs.worked_examples.Statement.{statement}
+use Rattle.worked_examples.proofs.worked_examples.Tie as tie
+
+computed : WorkedExamples
+unfolding ofBits add sub mul neg lt svfNext svfOut svfMixed naiveLow naiveHigh naiveNext naiveOut modifiedNext modifiedOut crossoverNext crossoverOut
+computed =
+    record {
+      dc-blocker = refl;
+      one-pole-low = refl;
+      one-pole-band = refl;
+      one-pole-state = refl;
+      svf-low = record { state = refl; buffer = refl };
+      svf-stride = refl;
+      svf-multimode = refl;
+      naive-normalized = refl;
+      naive-decimate = refl;
+      modified-band = refl;
+      crossover-high = refl;
+      tangent-at-nan = refl;
+      sine-at-nan = refl;
+    }
+
+pub worked-examples-spec : {M : Type 1} → statement M
+worked-examples-spec = tie.close (tie.spec (λ c. computed))

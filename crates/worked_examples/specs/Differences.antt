@@ -1,0 +1,46 @@
+-- Where the source differs from what is published or is easily misread, by the smallest input that shows it: the port does as the source.
+-- docs/DIFFERENCES.md says what each row is about.
+use mathlib.Core.Path.{_≡_}
+use mathlib.Core.List.{List, [], _∷_}
+use lib.Ieee.{Float}
+use Rattle.filter_core.specs.Arithmetic.{word, zeroᶠ, halfᶠ, oneᶠ, twoᶠ, negᶠ}
+use Rattle.filter_core.specs.Buffer.{bufferAfter, each, puts}
+use Rattle.filter_core.specs.Refusal.{stepRefusal, frequencyRefusal}
+use Rattle.filter_core.specs.declared.FilterMode.the-variants.{LowPass, BandPass}
+use Rattle.filter_core.specs.declared.FrequencyApproximation.the-variants.{Exact, Accurate}
+use Rattle.one_pole.specs.Tangent.{tanOf}
+use Rattle.svf.specs.Svf.{svfNext, svfGained, highGain, bandGain, lowGain}
+use Rattle.modified_svf.specs.ModifiedSvf.{modifiedReset, modifiedSetFFq, modifiedOut}
+use Rattle.modified_svf.specs.declared.ModifiedSvf.{ModifiedSvf}
+use Rattle.crossover_svf.specs.CrossoverSvf.{crossoverReset, crossoverSetFFq, crossoverOut, zeros}
+use Rattle.crossover_svf.specs.declared.CrossoverSvf.{CrossoverSvf}
+use Rattle.worked_examples.specs.Examples.{kept, quarterᶠ, svf}
+
+-- filters whose last sample was 1, with nothing else retained
+abbrev pub modifiedAfterOne : ModifiedSvf
+modifiedAfterOne = record { f = halfᶠ; fq = halfᶠ; x = oneᶠ; lp = zeroᶠ; bp = zeroᶠ }
+
+abbrev pub crossoverAfterOne : CrossoverSvf
+crossoverAfterOne = record { f = halfᶠ; fq = halfᶠ; x = oneᶠ ∷ zeroᶠ ∷ []; lp = zeros; bp = zeros }
+
+pub record Differences : Type 0 where
+  -- the tangent of an eighth turn is 1: by the series 1.0000001, by Accurate, which lacks a coefficient, 0.9975888
+  pub exact-quarter : tanOf quarterᶠ Exact ≡ word 0x3f80_0001
+  pub accurate-quarter : tanOf quarterᶠ Accurate ≡ word 0x3f7f_61fb
+  -- process_add_buffer with gain 2 on a buffer that held 7 leaves 0.5, not 7.5
+  pub gain-form-overwrites : bufferAfter (each svfNext) (puts (svfGained LowPass twoᶠ)) 0 svf (oneᶠ ∷ []) (kept ∷ []) ≡ halfᶠ ∷ []
+  -- the gains of multimode at 0.5
+  pub high-at-half : highGain halfᶠ ≡ negᶠ oneᶠ
+  pub band-at-half : bandGain halfᶠ ≡ zeroᶠ
+  pub low-at-half : lowGain halfᶠ ≡ zeroᶠ
+  -- ModifiedSvf: a band-pass sample 0 shows the last sample after reset, and not after set_f_fq
+  pub modified-reset-keeps : modifiedOut BandPass (modifiedReset modifiedAfterOne) zeroᶠ ≡ halfᶠ
+  pub modified-set-clears : modifiedOut BandPass (modifiedSetFFq modifiedAfterOne halfᶠ halfᶠ) zeroᶠ ≡ zeroᶠ
+  -- CrossoverSvf: the reverse
+  pub crossover-reset-clears : crossoverOut BandPass (crossoverReset crossoverAfterOne) zeroᶠ ≡ zeroᶠ
+  pub crossover-set-keeps : crossoverOut BandPass (crossoverSetFFq crossoverAfterOne halfᶠ halfᶠ) zeroᶠ ≡ quarterᶠ
+  -- refusals that the source has not: a step of 0, and Exact below 0, where -0.0 is not below
+  pub step-zero : stepRefusal 0 ≡ 10
+  pub exact-below-zero : frequencyRefusal (word 0x8000_0001) Exact ≡ 11
+  pub exact-at-minus-zero : frequencyRefusal (negᶠ zeroᶠ) Exact ≡ 0
+  pub accurate-below-zero : frequencyRefusal (word 0x8000_0001) Accurate ≡ 0

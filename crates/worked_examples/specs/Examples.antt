@@ -1,0 +1,101 @@
+-- The worked examples of document 01, a row each, about the definitions that the contracts cite.
+-- An output buffer is lent full of `kept`, so that the places that a form leaves alone show.
+use mathlib.Core.Path.{_≡_}
+use mathlib.Core.List.{List, [], _∷_}
+use lib.Ieee.{Float, nan}
+use Rattle.filter_core.specs.Arithmetic.{word, zeroᶠ, halfᶠ, oneᶠ}
+use Rattle.filter_core.specs.Buffer.{Filtered, bufferAfter, each, puts, eachDue, putsDue}
+use Rattle.filter_core.specs.declared.FilterMode.the-variants.{LowPass, BandPass, BandPassNormalized, HighPass}
+use Rattle.filter_core.specs.declared.FrequencyApproximation.the-variants.{Exact}
+use Rattle.dc_blocker.specs.DcBlocker.{dcNext, dcOut}
+use Rattle.dc_blocker.specs.declared.DcBlocker.{DcBlocker}
+use Rattle.one_pole.specs.OnePole.{onePoleNext, onePoleOut}
+use Rattle.one_pole.specs.Tangent.{tanOf}
+use Rattle.one_pole.specs.declared.OnePole.{OnePole}
+use Rattle.svf.specs.Svf.{svfNext, svfOut, svfMultimode}
+use Rattle.svf.specs.declared.Svf.{Svf}
+use Rattle.naive_svf.specs.Sine.{naiveFrequency}
+use Rattle.naive_svf.specs.NaiveSvf.{naiveNext, naiveOut}
+use Rattle.naive_svf.specs.declared.NaiveSvf.{NaiveSvf}
+use Rattle.modified_svf.specs.ModifiedSvf.{modifiedNext, modifiedOut}
+use Rattle.modified_svf.specs.declared.ModifiedSvf.{ModifiedSvf}
+use Rattle.crossover_svf.specs.CrossoverSvf.{crossoverNext, crossoverOut, zeros}
+use Rattle.crossover_svf.specs.declared.CrossoverSvf.{CrossoverSvf}
+
+-- ---- the numbers
+
+-- 7.0, which no example puts out
+abbrev pub kept : Float
+kept = word 0x40e0_0000
+
+-- 0.25
+abbrev pub quarterᶠ : Float
+quarterᶠ = word 0x3e80_0000
+
+-- 0.625
+abbrev pub five-eighthsᶠ : Float
+five-eighthsᶠ = word 0x3f20_0000
+
+-- 0.497, where Exact clips
+abbrev pub clipᶠ : Float
+clipᶠ = word 0x3efe_76c9
+
+-- ---- the filters, all at rest
+
+abbrev pub dc : DcBlocker
+dc = record { pole = halfᶠ; x = zeroᶠ; y = zeroᶠ }
+
+abbrev pub onePole : OnePole
+onePole = record { g = oneᶠ; gi = halfᶠ; state = zeroᶠ }
+
+abbrev pub svf : Svf
+svf = record { g = oneᶠ; r = oneᶠ; h = quarterᶠ; «state_1» = zeroᶠ; «state_2» = zeroᶠ }
+
+abbrev pub naive : NaiveSvf
+naive = record { f = halfᶠ; damp = oneᶠ; lp = zeroᶠ; bp = zeroᶠ }
+
+abbrev pub modified : ModifiedSvf
+modified = record { f = halfᶠ; fq = halfᶠ; x = zeroᶠ; lp = zeroᶠ; bp = zeroᶠ }
+
+abbrev pub crossover : CrossoverSvf
+crossover = record { f = halfᶠ; fq = halfᶠ; x = zeros; lp = zeros; bp = zeros }
+
+-- ---- the table
+
+pub record WorkedExamples : Type 0 where
+  -- S1 of document 01: 1, 1, 0 gives 1, 0.5, -0.75
+  pub dc-blocker :
+      bufferAfter (each dcNext) (puts dcOut) 0 dc (oneᶠ ∷ oneᶠ ∷ zeroᶠ ∷ []) (oneᶠ ∷ oneᶠ ∷ zeroᶠ ∷ [])
+      ≡ oneᶠ ∷ halfᶠ ∷ word 0xbf40_0000 ∷ []
+  -- S2 of document 01: low-pass 0.5, band-pass 0, and the state 1 after both
+  pub one-pole-low : onePoleOut LowPass onePole oneᶠ ≡ halfᶠ
+  pub one-pole-band : onePoleOut BandPass onePole oneᶠ ≡ zeroᶠ
+  pub one-pole-state : onePoleNext onePole oneᶠ .state ≡ oneᶠ
+  -- S3 of document 01: 0.25 and 0.625, states -0.25 and 0.75
+  pub svf-low :
+      Filtered (each svfNext) (puts (svfOut LowPass)) svf (oneᶠ ∷ zeroᶠ ∷ []) (kept ∷ kept ∷ [])
+      (record { g = oneᶠ; r = oneᶠ; h = quarterᶠ; «state_1» = word 0xbe80_0000; «state_2» = word 0x3f40_0000 })
+      (quarterᶠ ∷ five-eighthsᶠ ∷ [])
+  -- S4 of document 01: the 9 between the strides reaches nothing
+  pub svf-stride :
+      bufferAfter (eachDue 2 svfNext) (putsDue 2 (svfOut LowPass)) 0 svf (oneᶠ ∷ word 0x4110_0000 ∷ zeroᶠ ∷ []) (kept ∷ kept ∷ kept ∷ [])
+      ≡ quarterᶠ ∷ kept ∷ five-eighthsᶠ ∷ []
+  -- S5 of document 01: -0.25
+  pub svf-multimode : bufferAfter (each svfNext) (puts (svfMultimode halfᶠ)) 0 svf (oneᶠ ∷ []) (kept ∷ []) ≡ word 0xbe80_0000 ∷ []
+  -- S6 of document 01
+  pub naive-normalized :
+      bufferAfter (each naiveNext) (puts (naiveOut BandPassNormalized)) 0 naive (oneᶠ ∷ zeroᶠ ∷ []) (kept ∷ kept ∷ []) ≡ zeroᶠ ∷ halfᶠ ∷ []
+  -- S7 of document 01: 0.3125 stands at its own place
+  pub naive-decimate :
+      bufferAfter (each naiveNext) (putsDue 2 (naiveOut LowPass)) 0 naive (oneᶠ ∷ zeroᶠ ∷ zeroᶠ ∷ []) (kept ∷ kept ∷ kept ∷ [])
+      ≡ zeroᶠ ∷ kept ∷ word 0x3ea0_0000 ∷ []
+  -- S8 of document 01
+  pub modified-band :
+      bufferAfter (each (modifiedNext BandPass)) (puts (modifiedOut BandPass)) 0 modified (oneᶠ ∷ zeroᶠ ∷ []) (kept ∷ kept ∷ [])
+      ≡ halfᶠ ∷ five-eighthsᶠ ∷ []
+  -- S9 of document 01
+  pub crossover-high :
+      bufferAfter (each (crossoverNext HighPass)) (puts (crossoverOut HighPass)) 0 crossover (oneᶠ ∷ []) (kept ∷ []) ≡ quarterᶠ ∷ []
+  -- S12 of document 01: Exact at a NaN
+  pub tangent-at-nan : tanOf nan Exact ≡ tanOf clipᶠ Exact
+  pub sine-at-nan : naiveFrequency nan Exact ≡ naiveFrequency clipᶠ Exact
