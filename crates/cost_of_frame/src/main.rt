@@ -5,9 +5,7 @@ use frame::Frame;
 use runs::RunForm;
 
 // One entry of kind 3, an Svf: Exact, f 0.1, resonance 2.
-const SHEET: [u8; 15] = [
-    1, 0, 3, 0xcd, 0xcc, 0xcc, 0x3d, 0, 0, 0, 0x40, 0, 0, 0, 0,
-];
+const SHEET: [u8; 15] = [1, 0, 3, 0xcd, 0xcc, 0xcc, 0x3d, 0, 0, 0, 0x40, 0, 0, 0, 0];
 
 fn main() {
     let sheet = SHEET;

@@ -3,4 +3,3 @@ pub mod Readings
 pub mod Writings
 pub mod Entries
 pub mod RoundTrip
-pub mod Example

@@ -1,4 +1,3 @@
 pub mod Entry
 pub mod Library
 pub mod RoundTrip
-pub mod Example

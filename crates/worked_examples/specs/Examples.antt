@@ -1,7 +1,8 @@
 -- The worked examples of document 01, a row each, about the definitions that the contracts cite.
 -- An output buffer is lent full of `kept`, so that the places that a form leaves alone show.
 use mathlib.Core.Path.{_≡_}
-use mathlib.Core.List.{List, [], _∷_}
+use Prim.Native.Nat.{ℕ}
+use mathlib.Core.List.{List, [], _∷_, map}
 use lib.Ieee.{Float, nan}
 use Rattle.filter_core.specs.Arithmetic.{word, zeroᶠ, halfᶠ, oneᶠ}
 use Rattle.filter_core.specs.Buffer.{Filtered, bufferAfter, each, puts, eachDue, putsDue}
@@ -21,6 +22,11 @@ use Rattle.modified_svf.specs.ModifiedSvf.{modifiedNext, modifiedOut}
 use Rattle.modified_svf.specs.declared.ModifiedSvf.{ModifiedSvf}
 use Rattle.crossover_svf.specs.CrossoverSvf.{crossoverNext, crossoverOut, zeros}
 use Rattle.crossover_svf.specs.declared.CrossoverSvf.{CrossoverSvf}
+use Rattle.sheets.specs.Sheet.{checkOf}
+use Rattle.library.specs.Library.{zeros as zeros-bytes, libraryOf, entryAt}
+use Rattle.library.specs.declared.entry.Entry.the-variants.{DcBlocker as DcEntry}
+use Rattle.runs.specs.declared.RunForm.the-variants.{Plain}
+use Rattle.frame.specs.History.{Call, opening, at, load, run, mark, back, Reply, noHistories, repliesTo}
 
 -- ---- the numbers
 
@@ -60,6 +66,29 @@ modified = record { f = halfᶠ; fq = halfᶠ; x = zeroᶠ; lp = zeroᶠ; bp = z
 abbrev pub crossover : CrossoverSvf
 crossover = record { f = halfᶠ; fq = halfᶠ; x = zeros; lp = zeros; bp = zeros }
 
+-- ---- the sheet of S10, and calls on a fresh frame
+
+abbrev pub sheet : List ℕ
+sheet = 0x01 ∷ 0x00 ∷ 0x01 ∷ 0x00 ∷ 0x00 ∷ 0x00 ∷ 0x3f ∷ zeros-bytes 8
+
+abbrev pub runOne : Call
+runOne = at 0 (run (Plain LowPass) (oneᶠ ∷ []) (kept ∷ []))
+
+abbrev pub threadBreak : List Call
+threadBreak = opening sheet ∷ at 0 (load 0) ∷ runOne ∷ at 0 mark ∷ runOne ∷ at 0 (back 0) ∷ runOne ∷ []
+
+abbrev pub lastHead : List Call
+lastHead = opening sheet ∷ at 11 (load 0) ∷ at 12 (load 0) ∷ at 11 mark ∷ at 11 mark ∷ at 11 mark ∷ at 11 mark ∷ at 11 mark ∷ []
+
+abbrev pub numbersOf : List Call → List ℕ
+numbersOf cs = map (λ (r : Reply). r .number) (repliesTo noHistories cs)
+
+abbrev pub answersOf : List Call → List ℕ
+answersOf cs = map (λ (r : Reply). r .answer) (repliesTo noHistories cs)
+
+abbrev pub outputsOf : List Call → List (List Float)
+outputsOf cs = map (λ (r : Reply). r .first) (repliesTo noHistories cs)
+
 -- ---- the table
 
 pub record WorkedExamples : Type 0 where
@@ -96,6 +125,17 @@ pub record WorkedExamples : Type 0 where
   -- S9 of document 01
   pub crossover-high :
       bufferAfter (each (crossoverNext HighPass)) (puts (crossoverOut HighPass)) 0 crossover (oneᶠ ∷ []) (kept ∷ []) ≡ quarterᶠ ∷ []
-  -- S12 of document 01: Exact at a NaN
+  -- S10 of document 01: a sheet of one entry, a DC blocker with the pole 0.5
+  pub sheet-accepted : checkOf sheet ≡ 0
+  pub sheet-entries : libraryOf sheet .n ≡ 1
+  pub sheet-entry : entryAt (libraryOf sheet) 0 ≡ DcEntry halfᶠ
+  -- S11 of document 01: the run after the return answers what the run after the mark did
+  pub break-accepted : numbersOf threadBreak ≡ 0 ∷ 0 ∷ 0 ∷ 0 ∷ 0 ∷ 0 ∷ 0 ∷ []
+  pub break-mark : answersOf threadBreak ≡ 0 ∷ 0 ∷ 0 ∷ 0 ∷ 0 ∷ 0 ∷ 0 ∷ []
+  pub break-outputs : outputsOf threadBreak ≡ [] ∷ [] ∷ (oneᶠ ∷ []) ∷ [] ∷ (halfᶠ ∷ []) ∷ [] ∷ (halfᶠ ∷ []) ∷ []
+  -- S12 of document 01: head 12 is refused with 1, the fifth mark with 8; the four before it have the numbers 0 to 3
+  pub last-numbers : numbersOf lastHead ≡ 0 ∷ 0 ∷ 1 ∷ 0 ∷ 0 ∷ 0 ∷ 0 ∷ 8 ∷ []
+  pub last-marks : answersOf lastHead ≡ 0 ∷ 0 ∷ 0 ∷ 0 ∷ 1 ∷ 2 ∷ 3 ∷ 0 ∷ []
+  -- and Exact at a NaN
   pub tangent-at-nan : tanOf nan Exact ≡ tanOf clipᶠ Exact
   pub sine-at-nan : naiveFrequency nan Exact ≡ naiveFrequency clipᶠ Exact
