@@ -3,18 +3,35 @@
 use mathlib.Core.Path.{_≡_}
 use mathlib.Core.List.{List, [], _∷_}
 use lib.Ieee.{Float}
-use Rattle.filter_core.specs.Arithmetic.{word, zeroᶠ, halfᶠ, oneᶠ, twoᶠ, negᶠ}
+use Rattle.filter_core.specs.Arithmetic.{_-ᶠ_, word, zeroᶠ, halfᶠ, oneᶠ, twoᶠ, negᶠ}
 use Rattle.filter_core.specs.Buffer.{bufferAfter, each, puts}
 use Rattle.filter_core.specs.Refusal.{stepRefusal, frequencyRefusal}
 use Rattle.filter_core.specs.declared.FilterMode.the-variants.{LowPass, BandPass}
-use Rattle.filter_core.specs.declared.FrequencyApproximation.the-variants.{Exact, Accurate}
+use Rattle.filter_core.specs.declared.FrequencyApproximation.the-variants.{Exact, Accurate, Fast, Dirty}
 use Rattle.one_pole.specs.Tangent.{tanOf}
 use Rattle.svf.specs.Svf.{svfNext, svfGained, highGain, bandGain, lowGain}
+use Rattle.naive_svf.specs.Sine.{naiveFrequency}
+use Rattle.naive_svf.specs.NaiveSvf.{naiveHigh}
+use Rattle.naive_svf.specs.declared.NaiveSvf.{NaiveSvf}
 use Rattle.modified_svf.specs.ModifiedSvf.{modifiedReset, modifiedSetFFq, modifiedOut}
 use Rattle.modified_svf.specs.declared.ModifiedSvf.{ModifiedSvf}
 use Rattle.crossover_svf.specs.CrossoverSvf.{crossoverReset, crossoverSetFFq, crossoverOut, zeros}
 use Rattle.crossover_svf.specs.declared.CrossoverSvf.{CrossoverSvf}
 use Rattle.worked_examples.specs.Examples.{kept, quarterᶠ, svf}
+
+-- 0.158, where NaiveSvf clips when it is not Exact
+abbrev pub lowClipᶠ : Float
+lowClipᶠ = word 0x3e21_cac1
+
+-- the band 2⁻²⁵ and the low-pass output 2⁻²⁴: so small that the order in which 1 loses them shows
+abbrev pub tinyᶠ : Float
+tinyᶠ = word 0x3300_0000
+
+abbrev pub smallᶠ : Float
+smallᶠ = word 0x3380_0000
+
+abbrev pub naiveSmall : NaiveSvf
+naiveSmall = record { f = zeroᶠ; damp = oneᶠ; lp = smallᶠ; bp = tinyᶠ }
 
 -- filters whose last sample was 1, with nothing else retained
 abbrev pub modifiedAfterOne : ModifiedSvf
@@ -24,15 +41,25 @@ abbrev pub crossoverAfterOne : CrossoverSvf
 crossoverAfterOne = record { f = halfᶠ; fq = halfᶠ; x = oneᶠ ∷ zeroᶠ ∷ []; lp = zeros; bp = zeros }
 
 pub record Differences : Type 0 where
-  -- the tangent of an eighth turn is 1: by the series 1.0000001, by Accurate, which lacks a coefficient, 0.9975888
+  -- the tangent of an eighth turn is 1. By the series 1.0000001; by Accurate, which lacks a coefficient, 0.9975888; by Fast 0.9978163;
+  -- by Dirty 0.9663973
   pub exact-quarter : tanOf quarterᶠ Exact ≡ word 0x3f80_0001
   pub accurate-quarter : tanOf quarterᶠ Accurate ≡ word 0x3f7f_61fb
+  pub fast-quarter : tanOf quarterᶠ Fast ≡ word 0x3f7f_70e4
+  pub dirty-quarter : tanOf quarterᶠ Dirty ≡ word 0x3f77_65d1
   -- process_add_buffer with gain 2 on a buffer that held 7 leaves 0.5, not 7.5
   pub gain-form-overwrites : bufferAfter (each svfNext) (puts (svfGained LowPass twoᶠ)) 0 svf (oneᶠ ∷ []) (kept ∷ []) ≡ halfᶠ ∷ []
   -- the gains of multimode at 0.5
   pub high-at-half : highGain halfᶠ ≡ negᶠ oneᶠ
   pub band-at-half : bandGain halfᶠ ≡ zeroᶠ
   pub low-at-half : lowGain halfᶠ ≡ zeroᶠ
+  -- NaiveSvf takes the damped band from the sample first, Chamberlin the low-pass output
+  pub naive-order : naiveHigh naiveSmall oneᶠ ≡ word 0x3f7f_ffff
+  pub chamberlin-order : oneᶠ -ᶠ smallᶠ -ᶠ tinyᶠ ≡ word 0x3f7f_fffe
+  -- the frequency coefficient at 0.158: by the sine 0.9524765, else 0.9927434, and so above
+  pub naive-exact : naiveFrequency lowClipᶠ Exact ≡ word 0x3f73_d580
+  pub naive-linear : naiveFrequency lowClipᶠ Dirty ≡ word 0x3f7e_246e
+  pub naive-clipped : naiveFrequency halfᶠ Dirty ≡ word 0x3f7e_246e
   -- ModifiedSvf: a band-pass sample 0 shows the last sample after reset, and not after set_f_fq
   pub modified-reset-keeps : modifiedOut BandPass (modifiedReset modifiedAfterOne) zeroᶠ ≡ halfᶠ
   pub modified-set-clears : modifiedOut BandPass (modifiedSetFFq modifiedAfterOne halfᶠ halfᶠ) zeroᶠ ≡ zeroᶠ
