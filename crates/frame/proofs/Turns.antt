@@ -56,10 +56,10 @@ module _ (f : Frame) (h e : ℕ) where
   unfolding loadOf
   load-entry l m = rw (le-ltb _ _ l, le-leb _ _ m)
 
-  pub load-accepted : (g : Filter) (t : Entry) → h ≤ 11 → e < f .library .n → t ≡ loadedEntry (f .library) e → g ≡ filterOf t
-      → acceptedWith f h (holding (headAt f h) (Holds g)) ≡ loadOf f h e
+  pub load-accepted : (g : Filter) (t : Entry) (x : Head) → h ≤ 11 → e < f .library .n → t ≡ loadedEntry (f .library) e → g ≡ filterOf t → x ≡ holding (headAt f h) (Holds g)
+      → acceptedWith f h x ≡ loadOf f h e
   unfolding loadOf
-  load-accepted g t l m p q = rw (le-ltb _ _ l, lt-leb _ _ m, q, p)
+  load-accepted g t x l m p q k = rw (le-ltb _ _ l, lt-leb _ _ m, k, q, p)
 
 module _ (f : Frame) (h : ℕ) (form : RunForm) (us ys : List Float) where
   pub run-head : 11 < h → _≡_ {A = Answer × List Float} (refusedWith 1 f, ys) (runOf f h form us ys)
@@ -77,12 +77,12 @@ module _ (f : Frame) (h : ℕ) (form : RunForm) (us ys : List Float) where
         let r = refusing _ _ (a .number-is) z in
         let o = rw r at (a .output-is) in rw (le-ltb _ _ l, e, r, a .number-is, o)
 
-    pub run-accepted : n ≡ 0 → _≡_ {A = Answer × List Float} (acceptedWith f h (holding (headAt f h) (Holds g)), ys′) (runOf f h form us ys)
+    pub run-accepted : (x : Head) → n ≡ 0 → x ≡ holding (headAt f h) (Holds g) → _≡_ {A = Answer × List Float} (acceptedWith f h x, ys′) (runOf f h form us ys)
     unfolding runOf
-    run-accepted z =
+    run-accepted x z k =
         let r = accepting _ _ (a .number-is) z in
         let o = rw r at (a .output-is) in
-        let q = rw r at (a .filter-is) in rw (le-ltb _ _ l, e, r, o, q)
+        let q = rw r at (a .filter-is) in rw (le-ltb _ _ l, e, r, o, k, q)
 
 module _ (f : Frame) (h : ℕ) (form : RunForm) (us ys zs : List Float) where
   pub two-head : 11 < h → _≡_ {A = Answer × List Float × List Float} (refusedWith 1 f, ys, zs) (runTwoOf f h form us ys zs)
@@ -102,13 +102,13 @@ module _ (f : Frame) (h : ℕ) (form : RunForm) (us ys zs : List Float) where
         let o = rw r at (a .first-is) in
         let w = rw r at (a .second-is) in rw (le-ltb _ _ l, e, r, a .number-is, o, w)
 
-    pub two-accepted : n ≡ 0 → _≡_ {A = Answer × List Float × List Float} (acceptedWith f h (holding (headAt f h) (Holds g)), ys′, zs′) (runTwoOf f h form us ys zs)
+    pub two-accepted : (x : Head) → n ≡ 0 → x ≡ holding (headAt f h) (Holds g) → _≡_ {A = Answer × List Float × List Float} (acceptedWith f h x, ys′, zs′) (runTwoOf f h form us ys zs)
     unfolding runTwoOf
-    two-accepted z =
+    two-accepted x z k =
         let r = accepting _ _ (a .number-is) z in
         let o = rw r at (a .first-is) in
         let w = rw r at (a .second-is) in
-        let q = rw r at (a .filter-is) in rw (le-ltb _ _ l, e, r, o, w, q)
+        let q = rw r at (a .filter-is) in rw (le-ltb _ _ l, e, r, o, w, k, q)
 
 module _ (f : Frame) (h : ℕ) where
   pub rest-head : 11 < h → refusedWith 1 f ≡ restOf f h
@@ -119,9 +119,9 @@ module _ (f : Frame) (h : ℕ) where
   unfolding restOf
   rest-bare l e = rw (le-ltb _ _ l, e)
 
-  pub rest-accepted : (p g : Filter) → h ≤ 11 → headAt f h .now .slot ≡ Holds p → g ≡ rested p → acceptedWith f h (holding (headAt f h) (Holds g)) ≡ restOf f h
+  pub rest-accepted : (p g : Filter) (x : Head) → h ≤ 11 → headAt f h .now .slot ≡ Holds p → g ≡ rested p → x ≡ holding (headAt f h) (Holds g) → acceptedWith f h x ≡ restOf f h
   unfolding restOf
-  rest-accepted p g l e q = rw (le-ltb _ _ l, e, q)
+  rest-accepted p g x l e q k = rw (le-ltb _ _ l, e, k, q)
 
   pub mark-head : 11 < h → _≡_ {A = Marked} (record { number = 1; mark = 0; frame = f }) (markOf f h)
   unfolding markOf

@@ -5,7 +5,7 @@ use library::Library;
 use runs::Filter;
 use runs::RunForm;
 ghost use mathlib.Core.Path.{_≡_};
-ghost use Rattle.frame.specs.Calls.{freshFrame, openOf, loadOf, runOf, runTwoOf, restOf, markOf, backOf, dropOf, writeFrameOf, showOf, emptySnapshot, onlyIf, marksBelow};
+ghost use Rattle.frame.specs.Calls.{freshFrame, openOf, loadOf, runOf, runTwoOf, restOf, markOf, backOf, dropOf, writeFrameOf, showOf, emptySnapshot, holding, onlyIf, marksBelow};
 ghost use Rattle.frame.specs.Demand.{Demand3};
 
 pub enum Slot {
@@ -79,6 +79,20 @@ fn marks_below(k: usize, marks: [Snapshot; 4]) -> [Snapshot; 4]
     [a, b, c, d]
 }
 
+// The head with another filter. Its marks stay.
+fn holding(head: Head, filter: Filter) -> Head
+    ensures { λ r. ⌜ r ≡ holding head (Slot.Holds filter) ⌝ }
+{
+    let marks = head.marks;
+    Head {
+        now: Snapshot {
+            slot: Slot::Holds(filter),
+        },
+        marks: marks,
+        marked: head.marked,
+    }
+}
+
 impl Frame {
     // Twelve empty heads and no library.
     pub fn fresh() -> Frame
@@ -138,15 +152,7 @@ impl Frame {
         }
         let filter = loads::filter_of(library::entry_at(library, entry));
         let h = self.heads[head];
-        let marks = h.marks;
-        let now = Snapshot {
-            slot: Slot::Holds(filter),
-        };
-        self.heads[head] = Head {
-            now: now,
-            marks: marks,
-            marked: h.marked,
-        };
+        self.heads[head] = holding(h, filter);
         Answer {
             number: 0,
             frame: self,
@@ -180,15 +186,7 @@ impl Frame {
             };
         }
         let after = ran.filter;
-        let marks = h.marks;
-        let now = Snapshot {
-            slot: Slot::Holds(after),
-        };
-        self.heads[head] = Head {
-            now: now,
-            marks: marks,
-            marked: h.marked,
-        };
+        self.heads[head] = holding(h, after);
         Answer {
             number: 0,
             frame: self,
@@ -229,15 +227,7 @@ impl Frame {
             };
         }
         let after = ran.filter;
-        let marks = h.marks;
-        let now = Snapshot {
-            slot: Slot::Holds(after),
-        };
-        self.heads[head] = Head {
-            now: now,
-            marks: marks,
-            marked: h.marked,
-        };
+        self.heads[head] = holding(h, after);
         Answer {
             number: 0,
             frame: self,
@@ -263,15 +253,7 @@ impl Frame {
                 frame: self,
             };
         };
-        let marks = h.marks;
-        let now = Snapshot {
-            slot: Slot::Holds(runs::rest(filter)),
-        };
-        self.heads[head] = Head {
-            now: now,
-            marks: marks,
-            marked: h.marked,
-        };
+        self.heads[head] = holding(h, runs::rest(filter));
         Answer {
             number: 0,
             frame: self,

@@ -12,6 +12,7 @@ load-spec =
     (λ c κs. search turns)
     (λ c. search turns)
     (λ c. search turns)
+    (λ c κs. search turns)
     (λ c. search turns)
     (λ c. search turns)
     (λ c. search turns))

@@ -13,6 +13,7 @@ rest-spec =
     (λ c. search turns)
     (λ c. search turns)
     (λ c κs. search turns)
+    (λ c κs. search turns)
     (λ c. search turns)
     (λ c. search turns)
     (λ c. search turns))

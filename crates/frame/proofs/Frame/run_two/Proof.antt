@@ -16,6 +16,7 @@ run-two-spec =
     (λ c. search turns)
     (λ c. search turns)
     (λ c. search turns)
+    (λ c κs. search turns)
     (λ c. search turns)
     (λ c. search turns)
     (λ c. search turns)
