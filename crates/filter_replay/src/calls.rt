@@ -61,106 +61,168 @@ fn put_five(w: &mut [f32; 8], s: [f32; 5]) {
     w[4] = s[4];
 }
 
-fn dc_blocker(method: u32, t: Settings, w: &mut [f32; 8]) -> u8 {
-    let mut s = three(w);
-    let mut number = 0u8;
-    match method {
-        10 => dc_blocker_calls::dc_blocker_new(&mut s),
-        11 => dc_blocker_calls::dc_blocker_init(&mut s, t.p),
-        _ => number = NO_METHOD,
+fn dc_blocker(method: u32, t: Settings, s: &mut [f32; 3]) -> u8 {
+    if method == 10 {
+        dc_blocker_calls::dc_blocker_new(s);
+        return 0;
     }
-    put_three(w, s);
-    number
+    if method == 11 {
+        dc_blocker_calls::dc_blocker_init(s, t.p);
+        return 0;
+    }
+    NO_METHOD
 }
 
-fn one_pole(method: u32, t: Settings, w: &mut [f32; 8], y: &mut f32) -> u8 {
-    let mut s = three(w);
-    let mut number = 0u8;
-    match method {
-        20 => one_pole_calls::one_pole_new(&mut s),
-        21 => one_pole_calls::one_pole_init(&mut s),
-        22 => one_pole_calls::one_pole_reset(&mut s),
-        23 => number = one_pole_calls::one_pole_tan(t.p, t.a, y),
-        24 => number = one_pole_calls::one_pole_set_f(&mut s, t.p, t.a),
-        25 => number = one_pole_calls::one_pole_process(&mut s, t.p, t.a, y),
-        _ => number = NO_METHOD,
+fn one_pole(method: u32, t: Settings, s: &mut [f32; 3], y: &mut f32) -> u8 {
+    if method == 20 {
+        one_pole_calls::one_pole_new(s);
+        return 0;
     }
-    put_three(w, s);
-    number
+    if method == 21 {
+        one_pole_calls::one_pole_init(s);
+        return 0;
+    }
+    if method == 22 {
+        one_pole_calls::one_pole_reset(s);
+        return 0;
+    }
+    if method == 23 {
+        return one_pole_calls::one_pole_tan(t.p, t.a, y);
+    }
+    if method == 24 {
+        return one_pole_calls::one_pole_set_f(s, t.p, t.a);
+    }
+    if method == 25 {
+        return one_pole_calls::one_pole_process(s, t.p, t.a, y);
+    }
+    NO_METHOD
 }
 
-fn svf(
-    method: u32,
-    t: Settings,
-    w: &mut [f32; 8],
-    input: &[f32; 8],
-    y: &mut f32,
-    z: &mut f32,
-) -> u8 {
-    let mut s = five(w);
-    let mut number = 0u8;
-    let other = five(input);
-    match method {
-        30 => svf_calls::svf_new(&mut s),
-        31 => svf_calls::svf_init(&mut s),
-        32 => svf_calls::svf_reset(&mut s),
-        33 => svf_calls::svf_set(&mut s, &other),
-        34 => svf_calls::svf_set_g_r_h(&mut s, t.p, t.q, t.r),
-        35 => svf_calls::svf_set_g_r(&mut s, t.p, t.q),
-        36 => svf_calls::svf_set_g_q(&mut s, t.p, t.q),
-        37 => number = svf_calls::svf_set_f_q(&mut s, t.p, t.q, t.a),
-        38 => *y = svf_calls::svf_g(&s),
-        39 => *y = svf_calls::svf_r(&s),
-        40 => *y = svf_calls::svf_h(&s),
-        41 => number = svf_calls::svf_process(&mut s, t.p, t.a, y),
-        42 => number = svf_calls::svf_process_dual(&mut s, t.p, y, z, t.a, t.b),
-        _ => number = NO_METHOD,
+fn svf_settings(method: u32, t: Settings, s: &mut [f32; 5], other: &[f32; 5]) -> u8 {
+    if method == 30 {
+        svf_calls::svf_new(s);
+        return 0;
     }
-    put_five(w, s);
-    number
+    if method == 31 {
+        svf_calls::svf_init(s);
+        return 0;
+    }
+    if method == 32 {
+        svf_calls::svf_reset(s);
+        return 0;
+    }
+    if method == 33 {
+        svf_calls::svf_set(s, other);
+        return 0;
+    }
+    if method == 34 {
+        svf_calls::svf_set_g_r_h(s, t.p, t.q, t.r);
+        return 0;
+    }
+    if method == 35 {
+        svf_calls::svf_set_g_r(s, t.p, t.q);
+        return 0;
+    }
+    if method == 36 {
+        svf_calls::svf_set_g_q(s, t.p, t.q);
+        return 0;
+    }
+    if method == 37 {
+        return svf_calls::svf_set_f_q(s, t.p, t.q, t.a);
+    }
+    NO_METHOD
 }
 
-fn naive_svf(method: u32, t: Settings, w: &mut [f32; 8], y: &mut f32) -> u8 {
-    let mut s = four(w);
-    let mut number = 0u8;
-    match method {
-        50 => naive_svf_calls::naive_svf_new(&mut s),
-        51 => naive_svf_calls::naive_svf_init(&mut s),
-        52 => naive_svf_calls::naive_svf_reset(&mut s),
-        53 => number = naive_svf_calls::naive_svf_set_f_q(&mut s, t.p, t.q, t.a),
-        54 => *y = naive_svf_calls::naive_svf_lp(&s),
-        55 => *y = naive_svf_calls::naive_svf_bp(&s),
-        56 => number = naive_svf_calls::naive_svf_process(&mut s, t.p, t.a, y),
-        _ => number = NO_METHOD,
+fn svf(method: u32, t: Settings, s: &mut [f32; 5], y: &mut f32, z: &mut f32) -> u8 {
+    if method == 38 {
+        *y = svf_calls::svf_g(s);
+        return 0;
     }
-    put_four(w, s);
-    number
+    if method == 39 {
+        *y = svf_calls::svf_r(s);
+        return 0;
+    }
+    if method == 40 {
+        *y = svf_calls::svf_h(s);
+        return 0;
+    }
+    if method == 41 {
+        return svf_calls::svf_process(s, t.p, t.a, y);
+    }
+    if method == 42 {
+        return svf_calls::svf_process_dual(s, t.p, y, z, t.a, t.b);
+    }
+    NO_METHOD
 }
 
-fn modified_svf(method: u32, t: Settings, w: &mut [f32; 8]) -> u8 {
-    let mut s = five(w);
-    let mut number = 0u8;
-    match method {
-        60 => modified_svf_calls::modified_svf_new(&mut s),
-        61 => modified_svf_calls::modified_svf_init(&mut s),
-        62 => modified_svf_calls::modified_svf_reset(&mut s),
-        63 => modified_svf_calls::modified_svf_set_f_fq(&mut s, t.p, t.q),
-        _ => number = NO_METHOD,
+fn naive_svf(method: u32, t: Settings, s: &mut [f32; 4], y: &mut f32) -> u8 {
+    if method == 50 {
+        naive_svf_calls::naive_svf_new(s);
+        return 0;
     }
-    put_five(w, s);
-    number
+    if method == 51 {
+        naive_svf_calls::naive_svf_init(s);
+        return 0;
+    }
+    if method == 52 {
+        naive_svf_calls::naive_svf_reset(s);
+        return 0;
+    }
+    if method == 53 {
+        return naive_svf_calls::naive_svf_set_f_q(s, t.p, t.q, t.a);
+    }
+    if method == 54 {
+        *y = naive_svf_calls::naive_svf_lp(s);
+        return 0;
+    }
+    if method == 55 {
+        *y = naive_svf_calls::naive_svf_bp(s);
+        return 0;
+    }
+    if method == 56 {
+        return naive_svf_calls::naive_svf_process(s, t.p, t.a, y);
+    }
+    NO_METHOD
 }
 
-fn crossover_svf(method: u32, t: Settings, w: &mut [f32; 8]) -> u8 {
-    let mut number = 0u8;
-    match method {
-        70 => crossover_svf_calls::crossover_svf_new(w),
-        71 => crossover_svf_calls::crossover_svf_init(w),
-        72 => crossover_svf_calls::crossover_svf_reset(w),
-        73 => crossover_svf_calls::crossover_svf_set_f_fq(w, t.p, t.q),
-        _ => number = NO_METHOD,
+fn modified_svf(method: u32, t: Settings, s: &mut [f32; 5]) -> u8 {
+    if method == 60 {
+        modified_svf_calls::modified_svf_new(s);
+        return 0;
     }
-    number
+    if method == 61 {
+        modified_svf_calls::modified_svf_init(s);
+        return 0;
+    }
+    if method == 62 {
+        modified_svf_calls::modified_svf_reset(s);
+        return 0;
+    }
+    if method == 63 {
+        modified_svf_calls::modified_svf_set_f_fq(s, t.p, t.q);
+        return 0;
+    }
+    NO_METHOD
+}
+
+fn crossover_svf(method: u32, t: Settings, s: &mut [f32; 8]) -> u8 {
+    if method == 70 {
+        crossover_svf_calls::crossover_svf_new(s);
+        return 0;
+    }
+    if method == 71 {
+        crossover_svf_calls::crossover_svf_init(s);
+        return 0;
+    }
+    if method == 72 {
+        crossover_svf_calls::crossover_svf_reset(s);
+        return 0;
+    }
+    if method == 73 {
+        crossover_svf_calls::crossover_svf_set_f_fq(s, t.p, t.q);
+        return 0;
+    }
+    NO_METHOD
 }
 
 // A call for one sample, or for none.
@@ -173,19 +235,41 @@ pub fn sample(
     z: &mut f32,
 ) -> u8 {
     if method < 20 {
-        return dc_blocker(method, t, w);
+        let mut s = three(w);
+        let number = dc_blocker(method, t, &mut s);
+        put_three(w, s);
+        return number;
     }
     if method < 30 {
-        return one_pole(method, t, w, y);
+        let mut s = three(w);
+        let number = one_pole(method, t, &mut s, y);
+        put_three(w, s);
+        return number;
+    }
+    if method < 38 {
+        let mut s = five(w);
+        let other = five(input);
+        let number = svf_settings(method, t, &mut s, &other);
+        put_five(w, s);
+        return number;
     }
     if method < 50 {
-        return svf(method, t, w, input, y, z);
+        let mut s = five(w);
+        let number = svf(method, t, &mut s, y, z);
+        put_five(w, s);
+        return number;
     }
     if method < 60 {
-        return naive_svf(method, t, w, y);
+        let mut s = four(w);
+        let number = naive_svf(method, t, &mut s, y);
+        put_four(w, s);
+        return number;
     }
     if method < 70 {
-        return modified_svf(method, t, w);
+        let mut s = five(w);
+        let number = modified_svf(method, t, &mut s);
+        put_five(w, s);
+        return number;
     }
     crossover_svf(method, t, w)
 }
