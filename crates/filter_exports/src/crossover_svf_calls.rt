@@ -8,7 +8,7 @@ ghost use Rattle.filter_core.specs.Buffer.{within, each, puts};
 ghost use Rattle.crossover_svf.specs.CrossoverSvf.{crossoverNew, crossoverInit, crossoverReset, crossoverSetFFq, crossoverNext, crossoverOut};
 ghost use Rattle.filter_words.specs.Numbers.{modeOf, unknownRefusal};
 ghost use Rattle.filter_words.specs.Words.{crossoverOf, crossoverWords};
-ghost use Rattle.filter_exports.specs.Calls.{Answers, Runs};
+ghost use Rattle.filter_exports.specs.Calls.{Runs};
 
 #[no_mangle]
 pub extern "C" fn crossover_svf_new(state: &mut [f32; 8])

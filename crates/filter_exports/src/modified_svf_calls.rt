@@ -8,7 +8,7 @@ ghost use Rattle.filter_core.specs.Buffer.{within, each, puts};
 ghost use Rattle.modified_svf.specs.ModifiedSvf.{modifiedNew, modifiedInit, modifiedReset, modifiedSetFFq, modifiedNext, modifiedOut};
 ghost use Rattle.filter_words.specs.Numbers.{modeOf, unknownRefusal};
 ghost use Rattle.filter_words.specs.Words.{modifiedOf, modifiedWords};
-ghost use Rattle.filter_exports.specs.Calls.{Answers, Runs};
+ghost use Rattle.filter_exports.specs.Calls.{Runs};
 
 #[no_mangle]
 pub extern "C" fn modified_svf_new(state: &mut [f32; 5])

@@ -163,7 +163,7 @@ pub extern "C" fn svf_process_buffer(
         return UNKNOWN;
     }
     let s = filter_words::svf_of(state).process_buffer(in_, out, filter_words::mode_of(mode));
-    *state = filter_words::svf_words(s);
+    filter_words::svf_retain(state, s);
     0
 }
 
@@ -188,7 +188,7 @@ pub extern "C" fn svf_process_add_buffer(
         gain,
         filter_words::mode_of(mode),
     );
-    *state = filter_words::svf_words(s);
+    filter_words::svf_retain(state, s);
     0
 }
 
@@ -216,7 +216,7 @@ pub extern "C" fn svf_process_stride_buffer(
     if t.number != 0 {
         return t.number;
     }
-    *state = filter_words::svf_words(t.filter);
+    filter_words::svf_retain(state, t.filter);
     0
 }
 
@@ -230,11 +230,8 @@ pub extern "C" fn svf_process_multimode_buffer(
     ensures { λ _. ⌜ (now (state .exit) ≡ svfWords (stateAfter (each svfNext) 0 (svfOf (now (state .entry))) (within (now («in_» .entry)) (now (out .entry)))))
         × (now (out .exit) ≡ bufferAfter (each svfNext) (puts (svfMultimode mode)) 0 (svfOf (now (state .entry))) (within (now («in_» .entry)) (now (out .entry))) (now (out .entry))) ⌝ }
 {
-    *state = filter_words::svf_words(filter_words::svf_of(state).process_multimode_buffer(
-        in_,
-        out,
-        mode,
-    ));
+    let s = filter_words::svf_of(state).process_multimode_buffer(in_, out, mode);
+    filter_words::svf_retain(state, s);
 }
 
 #[no_mangle]
@@ -263,6 +260,6 @@ pub extern "C" fn svf_process_add_dual_buffer(
         gain_2,
         filter_words::mode_of(mode),
     );
-    *state = filter_words::svf_words(s);
+    filter_words::svf_retain(state, s);
     0
 }

@@ -34,6 +34,10 @@ svfOf w = record { g = at w 0; r = at w 1; h = at w 2; «state_1» = at w 3; «s
 abbrev pub svfWords : Svf → List Float
 svfWords s = s .g ∷ s .r ∷ s .h ∷ s .«state_1» ∷ s .«state_2» ∷ []
 
+-- the settings of s with the state of t: what a run leaves, since it keeps the settings
+abbrev pub svfRetained : Svf → Svf → Svf
+svfRetained s t = record { g = s .g; r = s .r; h = s .h; «state_1» = t .«state_1»; «state_2» = t .«state_2» }
+
 -- f, damp, lp, bp
 abbrev pub naiveOf : List Float → NaiveSvf
 naiveOf w = record { f = at w 0; damp = at w 1; lp = at w 2; bp = at w 3 }

@@ -12,7 +12,7 @@ use one_pole::OnePole;
 use svf::Svf;
 ghost use mathlib.Core.Path.{_≡_};
 ghost use Rattle.filter_words.specs.Numbers.{modeOf, approximationOf};
-ghost use Rattle.filter_words.specs.Words.{dcOf, dcWords, onePoleOf, onePoleWords, svfOf, svfWords};
+ghost use Rattle.filter_words.specs.Words.{dcOf, dcWords, onePoleOf, onePoleWords, svfOf, svfWords, svfRetained};
 ghost use Rattle.filter_words.specs.Words.{naiveOf, naiveWords, modifiedOf, modifiedWords, crossoverOf, crossoverWords};
 
 pub fn mode_of(n: u8) -> FilterMode
@@ -85,6 +85,14 @@ pub fn svf_words(s: Svf) -> [f32; 5]
     ensures { λ w. ⌜ w ≡ svfWords s ⌝ }
 {
     [s.g, s.r, s.h, s.state_1, s.state_2]
+}
+
+// Hands back the state of a filter whose settings are still those of the array. The settings are read again, not taken from s: then the
+// compiler sees that they need no store. Where they are stored it reads g and r as a pair and shuffles them at every sample.
+pub fn svf_retain(w: &mut [f32; 5], s: Svf)
+    ensures { λ _. ⌜ now (w .exit) ≡ svfWords (svfRetained (svfOf (now (w .entry))) s) ⌝ }
+{
+    *w = [w[0], w[1], w[2], s.state_1, s.state_2];
 }
 
 pub fn naive_svf_of(w: &[f32; 4]) -> NaiveSvf

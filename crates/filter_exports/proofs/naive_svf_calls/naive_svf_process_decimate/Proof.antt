@@ -22,4 +22,5 @@ naive-svf-process-decimate-spec =
     (λ c.
     let a = rw (c .before .before .before .before .before .before .before .before .naive-svf-of .ensures, c .before .before .before .before .before .before .mode-of .ensures) at (c .before .before .before .before .before .process-decimate .ensures) in
     let z = c .before .if2 .left in
-    run-accepted (known-first (c .before .before .before .before .before .before .before .before .before .before .if1 .left) (sym z ∙ a .refusal)) refl (step-accepted a z) (c .naive-svf-words .ensures)))
+    let e = step-accepted a z in
+    run-accepted (known-first (c .before .before .before .before .before .before .before .before .before .before .if1 .left) (sym z ∙ a .refusal)) refl e (c .naive-svf-words .ensures)))
