@@ -1,0 +1,3 @@
+pub mod Part
+pub mod Form
+pub mod Line
