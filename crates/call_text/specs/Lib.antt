@@ -1,3 +1,1 @@
-pub mod Part
-pub mod Form
 pub mod Line

@@ -9,12 +9,12 @@ use Rattle.digits.specs.Decimal.{numberOf}
 use Rattle.digits.specs.Hex.{allHex}
 use Rattle.digits.specs.declared.decimal.Number.{Number}
 use Rattle.digits.specs.declared.decimal.Number.the-variants.{Is, Bad}
-use Rattle.call_text.specs.Part.{sameText, named, partsOf, textOf}
-use Rattle.call_text.specs.Form.{formOf}
-use Rattle.call_text.specs.declared.part.Part.{Part}
-use Rattle.call_text.specs.declared.part.Parts.{Parts}
-use Rattle.call_text.specs.declared.form.ReadForm.{ReadForm}
-use Rattle.call_text.specs.declared.form.ReadForm.the-variants.{Form, NoForm}
+use Rattle.form_text.specs.Part.{sameText, named, partsOf, textOf}
+use Rattle.form_text.specs.Form.{formOf}
+use Rattle.form_text.specs.declared.part.Part.{Part}
+use Rattle.form_text.specs.declared.part.Parts.{Parts}
+use Rattle.form_text.specs.declared.form.ReadForm.{ReadForm}
+use Rattle.form_text.specs.declared.form.ReadForm.the-variants.{Form, NoForm}
 use Rattle.call_text.specs.declared.line.Call.{Call}
 use Rattle.call_text.specs.declared.line.Call.the-variants.{Silent, BadLine, Open, Load, Run, Two, Rest, Mark, Back, Drop, Write, Check, Lookup, Head}
 use Rattle.call_text.specs.declared.line.Keyword.{Keyword}

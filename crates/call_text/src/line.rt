@@ -3,15 +3,15 @@
 ghost use mathlib.Core.Path.{_≡_};
 ghost use mathlib.Core.Bool.{cond};
 ghost use Rattle.call_text.specs.Line.{hexField, bytesField, samplesField, keywordOf, lineFields, openCall, loadCall, runCall, twoCall, restCall, markCall, backCall, dropCall, writeCall, checkCall, lookupCall, headCall, both, callFor, callOf};
-use crate::form::ReadForm;
-use crate::form::form_of;
-use crate::part::Part;
-use crate::part::Parts;
-use crate::part::is_named;
-use crate::part::same;
-use crate::part::split;
-use crate::part::text;
 use digits::Number;
+use form_text::Part;
+use form_text::Parts;
+use form_text::ReadForm;
+use form_text::form_of;
+use form_text::is_named;
+use form_text::same;
+use form_text::split;
+use form_text::text;
 use runs::RunForm;
 
 // A buffer or a sheet is the part of the line that has its text: `digits::samples` and `digits::bytes` read it.

@@ -10,7 +10,7 @@ use borrow.Author.Needs.{needs}
 use borrow.Author.Tests.{leb-true, leb-false}
 use lib.Dec.{leb}
 use lib.ListN.{length, getD, set, take, drop, length-set, length-append}
-use lib.Seq.{paste, paste-zero, paste-suc, length-paste, take-paste, drop-paste, take-append-add, take-append-le, take-all, drop-drop}
+use lib.Seq.{paste, paste-zero, paste-suc, length-paste, take-paste, drop-paste, take-append-add, take-append-le, take-all, drop-drop, length-take-le}
 use Rattle.digits.specs.Table.{table}
 use Rattle.digits.specs.Place.{room, placed, Puts}
 use Rattle.digits.specs.Text.{spelled, orDash}
@@ -78,6 +78,12 @@ module _ {A : Type 0} where
 
     pub fill-done : {n i : ℕ} {zs : List A} → Putting (table m f) 0 ys n i zs → n ≤ i → n ≡ min m (length ys) → Puts (table m f) 0 ys n zs
     fill-done {n} {i} {zs} c h e = rw zero-add at (put-done c h (rw (length-table m f) (omega arith)))
+
+  pub put-counts : {xs : List A} {ys : List A} {n i : ℕ} {zs : List A} → Putting xs 0 ys n i zs → n ≤ length zs
+  put-counts {zs = zs} c = omega (arith, c .places, c .long)
+
+  pub put-takes : {xs : List A} {ys : List A} {n i : ℕ} {zs : List A} → Putting xs 0 ys n i zs → n ≡ length (take n zs)
+  put-takes {n = n} {zs = zs} c = sym (length-take-le n zs (omega (arith, c .places, c .long)))
 
   -- ---- one after the other is both at once
 
@@ -173,4 +179,4 @@ module _ {A : Type 0} (text : A → List ℕ) where
   spell-dash [] e p = p
   spell-dash (x ∷ xs) e p = absurd (omega arith)
 
-pub ruleset putting = (put-inside, put-again, put-done, put-none, fill-start, fill-again, fill-done, puts-long, spell-start, spell-again, spell-next, spell-done, spell-dash, needs)
+pub ruleset putting = (put-inside, put-again, put-done, put-none, fill-start, fill-again, fill-done, put-counts, put-takes, puts-long, spell-start, spell-again, spell-next, spell-done, spell-dash, needs)

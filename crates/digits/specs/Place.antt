@@ -1,8 +1,8 @@
 -- A list put over another from a place on, as far as there is room.
-use Prim.Native.Nat.{ℕ, _+_, _-_, min}
+use Prim.Native.Nat.{ℕ, _+_, _-_, _≤_, min}
 use mathlib.Core.Path.{_≡_}
 use mathlib.Core.List.{List}
-use lib.ListN.{length}
+use lib.ListN.{length, take}
 use lib.Seq.{paste}
 
 -- how many of xs have room in ys from the place `at` on
@@ -17,3 +17,7 @@ placed xs at ys = paste ys at xs (room xs at ys)
 pub record Puts {A : Type 0} (xs : List A) (at : ℕ) (ys : List A) (r : ℕ) (zs : List A) : Type 0 where
   pub list : zs ≡ placed xs at ys
   pub place : r ≡ at + room xs at ys
+
+-- n counts places at the start of xs. The second part follows from the first, and is what lending the first n asks
+abbrev pub Counts : {A : Type 0} → ℕ → List A → Type 0
+Counts n xs = (n ≤ length xs) × (n ≡ length (take n xs))

@@ -3,7 +3,7 @@
 ghost use mathlib.Core.Path.{_≡_};
 ghost use lib.Ieee.{binary32, ofBits};
 ghost use Rattle.digits.specs.Hex.{hexDigit, allHex, pairOf, byteFrom, hexWord, bytesOf, samplesOf};
-ghost use Rattle.digits.specs.Place.{Puts};
+ghost use Rattle.digits.specs.Place.{Puts, Counts};
 
 // 16 for a byte that is no digit.
 pub fn digit(b: u8) -> u8
@@ -80,6 +80,7 @@ pub fn sample(s: &[u8], at: usize) -> f32
 // The bytes of the text, as far as `out` has places; the answer counts them.
 pub fn bytes(s: &[u8], out: &mut [u8]) -> usize
     ensures { λ r. ⌜ Puts (bytesOf (now (s .entry))) 0 (now (out .entry)) r (now (out .exit)) ⌝ }
+    ensures { λ r. ⌜ Counts r (now (out .exit)) ⌝ }
 {
     let n = filter_core::shortest(s.len() / 2, out.len());
     let mut i = 0usize;
@@ -93,6 +94,7 @@ pub fn bytes(s: &[u8], out: &mut [u8]) -> usize
 // The samples of the text, likewise.
 pub fn samples(s: &[u8], out: &mut [f32]) -> usize
     ensures { λ r. ⌜ Puts (samplesOf (now (s .entry))) 0 (now (out .entry)) r (now (out .exit)) ⌝ }
+    ensures { λ r. ⌜ Counts r (now (out .exit)) ⌝ }
 {
     let n = filter_core::shortest(s.len() / 8, out.len());
     let mut i = 0usize;

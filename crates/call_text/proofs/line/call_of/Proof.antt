@@ -1,6 +1,6 @@
 use borrow.Author.Tests.{lt-ltb, le-ltb, eq-eqb}
 use borrow.Author.Needs.{needs}
-use Rattle.call_text.proofs.Fields.{call-is}
+use Rattle.call_text.proofs.Lines.{call-is}
 use Rattle.call_text.proofs.line.call_of.Statement.{statement}
 use Rattle.call_text.proofs.line.call_of.Tie as tie
 

@@ -1,6 +1,6 @@
 use mathlib.Core.Path.{refl}
 use borrow.Author.Needs.{needs}
-use Rattle.call_text.proofs.Splits.{or-next}
+use Rattle.form_text.proofs.Splits.{or-next}
 use Rattle.call_text.proofs.line.keyword_of.Statement.{statement}
 use Rattle.call_text.proofs.line.keyword_of.Tie as tie
 

@@ -1,5 +1,5 @@
 use borrow.Author.Needs.{needs}
-use Rattle.call_text.proofs.Fields.{line-fields-are}
+use Rattle.call_text.proofs.Lines.{line-fields-are}
 use Rattle.call_text.proofs.line.line_fields.Statement.{statement}
 use Rattle.call_text.proofs.line.line_fields.Tie as tie
 
