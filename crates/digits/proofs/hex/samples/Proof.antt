@@ -1,0 +1,29 @@
+use Rattle.digits.proofs.Putting.{Putting, putting}
+use Prim.Native.Nat.{_-_}
+use Rattle.digits.specs.Hex.{samplesOf}
+use Rattle.digits.proofs.hex.samples.Statement.{statement}
+use Rattle.digits.proofs.hex.samples.Tie as tie
+
+abbrev Inv-loop : tie.InvT-loop
+Inv-loop s out₀ n i₀ out i = Putting (samplesOf s) 0 out₀ n i out
+
+abbrev μ-loop : tie.MeasureT-loop
+μ-loop s out₀ n i₀ out i = n - i
+
+pub samples-spec : {M : Type 1} → statement M
+samples-spec =
+    tie.close
+    (tie.spec
+    Inv-loop
+    μ-loop
+    (λ c κs. search putting)
+    (λ c. search putting)
+    (λ c. search putting)
+    (λ c κs. search putting)
+    (λ c. search putting)
+    (λ c. search putting)
+    (λ c. search putting)
+    (λ c. search putting)
+    (λ c. search putting)
+    (λ c. search putting)
+    (λ c. search putting))

@@ -1,0 +1,20 @@
+use borrow.Author.Needs.{needs}
+use Rattle.digits.proofs.output.word_text.Statement.{statement}
+use Rattle.digits.proofs.output.word_text.Tie as tie
+
+returns : tie.Need-returns
+returns c = cc
+
+pub word-text-spec : {M : Type 1} → statement M
+word-text-spec =
+    tie.close
+    (tie.spec
+    (λ c κs. search needs)
+    (λ c κs. search needs)
+    (λ c κs. search needs)
+    (λ c κs. search needs)
+    (λ c κs. search needs)
+    (λ c κs. search needs)
+    (λ c κs. search needs)
+    (λ c κs. search needs)
+    returns)

@@ -1,0 +1,21 @@
+use borrow.Author.Needs.{needs}
+use Rattle.form_text.proofs.form.gains_form.Statement.{statement}
+use Rattle.form_text.proofs.form.gains_form.Tie as tie
+
+returns : tie.Need-returns
+returns c = rw (c .before .before .before .before .before .before .before .mode .given .1, c .before .before .before .before .gain .given .1, c .before .second-gain .given .1)
+
+pub gains-form-spec : {M : Type 1} → statement M
+gains-form-spec =
+    tie.close
+    (tie.spec
+    (λ c. search needs)
+    (λ c. search needs)
+    (λ c. search needs)
+    (λ c. search needs)
+    (λ c. search needs)
+    (λ c. search needs)
+    returns
+    (λ c. search needs)
+    (λ c. search needs)
+    (λ c. search needs))

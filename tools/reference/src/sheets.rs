@@ -1,0 +1,77 @@
+//! The check of a sheet, from document 01's tables.
+
+/// A binary32 word of an entry: 0 for a, 1 for b, 2 for c.
+pub fn word(sheet: &[u8], entry: usize, k: usize) -> u32 {
+    let n = entries(sheet);
+    let at = 2 + n + 12 * entry + 4 * k;
+    u32::from_le_bytes(sheet[at..at + 4].try_into().unwrap())
+}
+
+pub fn entries(sheet: &[u8]) -> usize {
+    usize::from(sheet[0]) + 256 * usize::from(sheet[1])
+}
+
+/// Kind and approximation of an entry.
+pub fn kind(sheet: &[u8], entry: usize) -> (u8, u8) {
+    let byte = sheet[2 + entry];
+    (byte % 16, byte / 16)
+}
+
+// How many of a, b, c a kind uses, and whether it takes an approximation.
+const KINDS: [(u8, usize, bool); 7] = [
+    (1, 1, false), // DcBlocker::init: pole
+    (2, 1, true),  // OnePole::set_f: f
+    (3, 2, true),  // Svf::set_f_q: f, resonance
+    (4, 3, false), // Svf::set_g_r_h
+    (5, 2, true),  // NaiveSvf::set_f_q: f, resonance
+    (6, 2, false), // ModifiedSvf::set_f_fq
+    (7, 2, false), // CrossoverSvf::set_f_fq
+];
+
+/// The number that opening the sheet gives, 0 if it is accepted.
+pub fn check(sheet: &[u8]) -> u8 {
+    if sheet.len() < 2 {
+        return 2;
+    }
+    let n = entries(sheet);
+    if !(1..=64).contains(&n) || sheet.len() != 2 + 13 * n {
+        return 2;
+    }
+    for entry in 0..n {
+        let (kind, approximation) = kind(sheet, entry);
+        let Some(&(_, used, approximates)) = KINDS.iter().find(|row| row.0 == kind) else {
+            return 3;
+        };
+        if approximation > if approximates { 3 } else { 0 } {
+            return 3;
+        }
+        for k in 0..3 {
+            let w = word(sheet, entry, k);
+            let another_nan = f32::from_bits(w).is_nan() && w != 0x7FC0_0000;
+            if another_nan || (k >= used && w != 0) {
+                return 4;
+            }
+        }
+        if approximates && approximation == 0 && f32::from_bits(word(sheet, entry, 0)) < 0.0 {
+            return 11;
+        }
+    }
+    0
+}
+
+/// The number of a lookup of entry e: that of the sheet, then 5.
+pub fn check_entry(sheet: &[u8], e: u64) -> u8 {
+    match check(sheet) {
+        0 if e >= entries(sheet) as u64 => 5,
+        number => number,
+    }
+}
+
+/// The setting bytes of entry e; none where the check declines.
+pub fn lookup(sheet: &[u8], e: u64) -> &[u8] {
+    if check_entry(sheet, e) != 0 {
+        return &[];
+    }
+    let at = 2 + entries(sheet) + 12 * e as usize;
+    &sheet[at..at + 12]
+}

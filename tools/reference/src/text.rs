@@ -1,0 +1,273 @@
+//! The text of calls: a line in, its answer out.
+
+use crate::counts::Counts;
+use crate::filters::{Filter, Form, Mode};
+use crate::lists::Frame;
+use crate::sheets;
+
+pub const LONGEST_LINE: usize = 65_535;
+const MOST_SAMPLES: usize = 1_024;
+const MOST_BYTES: usize = 4_096;
+
+fn number(word: &[u8]) -> Option<u64> {
+    if word.is_empty() || word.len() > 20 || !word.iter().all(u8::is_ascii_digit) {
+        return None;
+    }
+    std::str::from_utf8(word).unwrap().parse().ok()
+}
+
+fn hex(word: &[u8]) -> Option<Vec<u8>> {
+    let digits: Option<Vec<u8>> = word
+        .iter()
+        .map(|b| char::from(*b).to_digit(16).map(|d| d as u8))
+        .collect();
+    let digits = digits?;
+    (digits.len() % 2 == 0).then(|| digits.chunks(2).map(|p| 16 * p[0] + p[1]).collect())
+}
+
+fn bytes(word: &[u8]) -> Option<Vec<u8>> {
+    if word == b"-" {
+        return Some(Vec::new());
+    }
+    hex(word).filter(|b| !b.is_empty() && b.len() <= MOST_BYTES)
+}
+
+// Every NaN is the one NaN.
+fn float(bits: u32) -> f32 {
+    let x = f32::from_bits(bits);
+    if x.is_nan() {
+        f32::from_bits(0x7FC0_0000)
+    } else {
+        x
+    }
+}
+
+fn samples(word: &[u8]) -> Option<Vec<f32>> {
+    if word == b"-" {
+        return Some(Vec::new());
+    }
+    let bytes = hex(word)?;
+    if bytes.is_empty() || bytes.len() % 4 != 0 || bytes.len() > 4 * MOST_SAMPLES {
+        return None;
+    }
+    Some(
+        bytes
+            .chunks(4)
+            .map(|c| float(u32::from_be_bytes(c.try_into().unwrap())))
+            .collect(),
+    )
+}
+
+fn word(text: &[u8]) -> Option<f32> {
+    samples(text).filter(|_| text.len() == 8).map(|s| s[0])
+}
+
+fn mode(text: &[u8]) -> Option<Mode> {
+    match text {
+        b"low" => Some(Mode::Low),
+        b"band" => Some(Mode::Band),
+        b"normalized" => Some(Mode::Normalized),
+        b"high" => Some(Mode::High),
+        _ => None,
+    }
+}
+
+fn form(text: &[u8]) -> Option<Form> {
+    let parts: Vec<&[u8]> = text.split(|b| *b == b':').collect();
+    Some(match parts[..] {
+        [b"plain", m] => Form::Plain(mode(m)?),
+        [b"gain", m, g] => Form::Gain(mode(m)?, word(g)?),
+        [b"stride", m, n] => Form::Stride(mode(m)?, number(n)?),
+        [b"multimode", w] => Form::Multimode(word(w)?),
+        [b"decimate", m, n] => Form::Decimate(mode(m)?, number(n)?),
+        [b"gains", m, g, h] => Form::Gains(mode(m)?, word(g)?, word(h)?),
+        [b"pair", m, n] => Form::Pair(mode(m)?, mode(n)?),
+        [b"split"] => Form::Split,
+        _ => return None,
+    })
+}
+
+fn put_word(x: f32, to: &mut String) {
+    let bits = if x.is_nan() { 0x7FC0_0000 } else { x.to_bits() };
+    put_hex(&bits.to_be_bytes(), to);
+}
+
+fn put_hex(bytes: &[u8], to: &mut String) {
+    for b in bytes {
+        to.push(char::from_digit(u32::from(b >> 4), 16).unwrap());
+        to.push(char::from_digit(u32::from(b & 15), 16).unwrap());
+    }
+}
+
+fn put_samples(xs: &[f32], to: &mut String) {
+    if xs.is_empty() {
+        to.push('-');
+    }
+    xs.iter().for_each(|x| put_word(*x, to));
+}
+
+fn put_bytes(bytes: &[u8], to: &mut String) {
+    if bytes.is_empty() {
+        to.push('-');
+    }
+    put_hex(bytes, to);
+}
+
+fn put_filter(filter: &Option<Filter>, to: &mut String) {
+    let Some(filter) = filter else {
+        to.push_str("empty");
+        return;
+    };
+    let (name, words) = filter.shown();
+    to.push_str(name);
+    for x in words {
+        to.push(':');
+        put_word(x, to);
+    }
+}
+
+/// Whether a line is answered at all.
+pub fn is_silent(line: &[u8]) -> bool {
+    line.len() <= LONGEST_LINE && (line.is_empty() || line[0] == b'#')
+}
+
+/// Makes the call of a line and appends its answer line, if it gets one.
+pub fn answer(frame: &mut Frame, line: &[u8], counts: &mut Counts, to: &mut String) {
+    if is_silent(line) {
+        return;
+    }
+    if line.len() > LONGEST_LINE {
+        counts.add("long line", 1);
+        to.push_str("? long line\n");
+        return;
+    }
+    if call(frame, line, counts, to).is_none() {
+        counts.add("bad line", 1);
+        to.push_str("? bad line");
+    }
+    to.push('\n');
+}
+
+fn numbered(name: &str, number: u8, counts: &mut Counts, to: &mut String) {
+    counts.add("calls", 1);
+    counts.add(name, 1);
+    if number != 0 {
+        counts.add(&format!("refusal {number}"), 1);
+    }
+    to.push_str(&format!("{name} {number}"));
+}
+
+fn run(
+    frame: &mut Frame,
+    name: &str,
+    head: &[u8],
+    of: &[u8],
+    input: &[u8],
+    outputs: &[&[u8]],
+    counts: &mut Counts,
+    to: &mut String,
+) -> Option<()> {
+    let (head, form) = (number(head)?, form(of)?);
+    let input = samples(input)?;
+    let mut outputs: Vec<Vec<f32>> = outputs
+        .iter()
+        .map(|out| samples(out))
+        .collect::<Option<_>>()?;
+    let of_type = frame.type_at(head);
+    let refusal = frame.run(head, form, &input, &mut outputs);
+    if let Some(of_type) = of_type {
+        counts.add(&format!("{name} {of_type} {}", form.name()), 1);
+        if refusal == 0 {
+            if let Form::Plain(m) | Form::Gain(m, _) | Form::Stride(m, _) | Form::Decimate(m, _) | Form::Gains(m, _, _) | Form::Pair(m, _) = form {
+                let m = ["low", "band", "normalized", "high"][m as usize];
+                counts.add(&format!("mode {of_type} {m}"), 1);
+            }
+        }
+    }
+    numbered(name, refusal, counts, to);
+    for out in &outputs {
+        to.push(' ');
+        put_samples(out, to);
+    }
+    Some(())
+}
+
+fn call(frame: &mut Frame, line: &[u8], counts: &mut Counts, to: &mut String) -> Option<()> {
+    let words: Vec<&[u8]> = line.split(|b| *b == b' ').collect();
+    match words[..] {
+        [b"open", sheet] => {
+            let number = frame.open(&bytes(sheet)?);
+            numbered("open", number, counts, to);
+        }
+        [b"load", head, entry] => {
+            let (head, entry) = (number(head)?, number(entry)?);
+            let refusal = frame.load(head, entry);
+            if refusal == 0 {
+                let byte = frame.kind_byte(entry);
+                counts.add(&format!("kind byte {byte}"), 1);
+            }
+            numbered("load", refusal, counts, to);
+        }
+        [b"run", head, of, input, out] => {
+            run(frame, "run", head, of, input, &[out], counts, to)?;
+        }
+        [b"two", head, of, input, first, second] => {
+            run(frame, "two", head, of, input, &[first, second], counts, to)?;
+        }
+        [b"rest", head] => {
+            let refusal = frame.rest(number(head)?);
+            numbered("rest", refusal, counts, to);
+        }
+        [b"mark", head] => match frame.mark(number(head)?) {
+            Ok(mark) => {
+                numbered("mark", 0, counts, to);
+                to.push_str(&format!(" {mark}"));
+            }
+            Err(refusal) => numbered("mark", refusal, counts, to),
+        },
+        [b"back", head, mark] => {
+            let refusal = frame.back(number(head)?, number(mark)?);
+            numbered("back", refusal, counts, to);
+        }
+        [b"drop", head, mark] => {
+            let refusal = frame.drop(number(head)?, number(mark)?);
+            numbered("drop", refusal, counts, to);
+        }
+        [b"write", out] => {
+            let mut out = bytes(out)?;
+            match frame.write(&mut out) {
+                Ok(length) => {
+                    numbered("write", 0, counts, to);
+                    to.push_str(&format!(" {length}"));
+                }
+                Err(refusal) => numbered("write", refusal, counts, to),
+            }
+            to.push(' ');
+            put_bytes(&out, to);
+        }
+        [b"check", sheet, entry] => {
+            let refusal = sheets::check_entry(&bytes(sheet)?, number(entry)?);
+            numbered("check", refusal, counts, to);
+        }
+        [b"lookup", sheet, entry] => {
+            let sheet = bytes(sheet)?;
+            let part = sheets::lookup(&sheet, number(entry)?);
+            counts.add("calls", 1);
+            counts.add("lookup", 1);
+            to.push_str("lookup ");
+            put_bytes(part, to);
+        }
+        [b"head", head] => match frame.shown(number(head)?) {
+            Some(filters) => {
+                numbered("head", 0, counts, to);
+                for filter in &filters {
+                    to.push(' ');
+                    put_filter(filter, to);
+                }
+            }
+            None => numbered("head", 1, counts, to),
+        },
+        _ => return None,
+    }
+    Some(())
+}
