@@ -3,6 +3,7 @@
 
 pub mod counts;
 pub mod filters;
+pub mod histories;
 pub mod lists;
 pub mod numbers;
 pub mod sheets;

@@ -147,7 +147,9 @@ impl Frame {
     }
 
     fn head(&mut self, head: u64) -> Option<&mut Head> {
-        usize::try_from(head).ok().and_then(|h| self.heads.get_mut(h))
+        usize::try_from(head)
+            .ok()
+            .and_then(|h| self.heads.get_mut(h))
     }
 
     /// The type of a head's filter, by the last load in its list.

@@ -178,7 +178,13 @@ fn run(
     if let Some(of_type) = of_type {
         counts.add(&format!("{name} {of_type} {}", form.name()), 1);
         if refusal == 0 {
-            if let Form::Plain(m) | Form::Gain(m, _) | Form::Stride(m, _) | Form::Decimate(m, _) | Form::Gains(m, _, _) | Form::Pair(m, _) = form {
+            if let Form::Plain(m)
+            | Form::Gain(m, _)
+            | Form::Stride(m, _)
+            | Form::Decimate(m, _)
+            | Form::Gains(m, _, _)
+            | Form::Pair(m, _) = form
+            {
                 let m = ["low", "band", "normalized", "high"][m as usize];
                 counts.add(&format!("mode {of_type} {m}"), 1);
             }

@@ -1,0 +1,20 @@
+use native.Mathlib.Nat.{le-of-lt, le-refl}
+use mathlib.Core.Path.{sym}
+use native.Mathlib.Omega.{arith}
+use lib.Seq.{length-take-le}
+use borrow.Author.Needs.{needs}
+use Rattle.frame_calls.proofs.within.Statement.{statement}
+use Rattle.frame_calls.proofs.within.Tie as tie
+
+returns : tie.Need-returns
+returns c = let l = le-of-lt (c .if1 .taken) in (l, sym (length-take-le _ _ l))
+
+returns-2 : tie.Need-returns-2
+returns-2 c = let l = le-refl _ in (l, sym (length-take-le _ _ l))
+
+pub within-spec : {M : Type 1} → statement M
+within-spec =
+    tie.close
+    (tie.spec
+    returns
+    returns-2)

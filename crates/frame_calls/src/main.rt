@@ -1,0 +1,288 @@
+// The frame from the command line: reads calls as text, one to a line, makes each on one frame, and writes an answer line for each.
+// The memory is fixed, whatever the length of the input.
+mod answers;
+mod shown;
+
+ghost use Prim.Native.Nat.{_≤_};
+ghost use lib.ListN.{length};
+ghost use Rattle.digits.specs.Place.{Counts};
+use frame::Frame;
+use libc::STDIN_FILENO;
+use libc::STDOUT_FILENO;
+
+// A line may have so many bytes.
+const LONGEST: usize = 65535;
+
+// Answers are written once they take so many bytes. The output has room for one more, the longest of which takes less than 32,768.
+const ENOUGH: usize = 65536;
+
+// How far the lines of a text were answered, and whether the output still takes answers.
+struct Lines {
+    frame: Frame,
+    used: usize,
+    going: bool,
+}
+
+// What goes from one read to the next: the frame, how many bytes of an unfinished line stand at the start of the buffer, and whether the
+// rest of a long line is still to be passed over.
+struct State {
+    frame: Frame,
+    held: usize,
+    skipping: bool,
+    going: bool,
+}
+
+struct Start {
+    from: usize,
+    skipping: bool,
+}
+
+struct Taken {
+    frame: Frame,
+    used: usize,
+    skipping: bool,
+    going: bool,
+}
+
+struct Sent {
+    at: usize,
+    going: bool,
+}
+
+// n, or the buffer's length where that is less.
+fn within(n: usize, buffer: &[u8]) -> usize
+    ensures { λ r. ⌜ Counts r (now (buffer .entry)) ⌝ }
+{
+    if n < buffer.len() { n } else { buffer.len() }
+}
+
+fn send(out: &[u8], at: usize) -> bool {
+    let n = within(at, out);
+    io::write_all(STDOUT_FILENO, &out[..n])
+}
+
+fn send_if_enough(out: &[u8], at: usize) -> Sent {
+    if at < ENOUGH {
+        return Sent { at, going: true };
+    }
+    Sent {
+        at: 0,
+        going: send(out, at),
+    }
+}
+
+// Answers every whole line of the text.
+fn answer_lines(
+    frame: Frame,
+    text: &[u8],
+    input: &mut [f32],
+    first: &mut [f32],
+    second: &mut [f32],
+    bytes: &mut [u8],
+    out: &mut [u8],
+) -> Lines
+    ensures { λ r. ⌜ r .used ≤ length (now (text .entry)) ⌝ }
+{
+    let mut now = frame;
+    let mut from = 0usize;
+    let mut at = 0usize;
+    let mut going = true;
+    while from < text.len() {
+        let end = bytes::scan::find(text, from, text.len(), 10);
+        if end == text.len() {
+            break;
+        }
+        let after = end + 1;
+        let turn = answers::answer(now, &text[from..end], input, first, second, bytes, out, at);
+        let next = turn.frame;
+        now = next;
+        let sent = send_if_enough(out, turn.at);
+        at = sent.at;
+        going = going & sent.going;
+        from = after;
+    }
+    let sent = send(out, at);
+    Lines {
+        frame: now,
+        used: from,
+        going: going & sent,
+    }
+}
+
+// Where the lines begin: past the rest of a long line, if there is one.
+fn lines_begin(text: &[u8], skipping: bool) -> Start
+    ensures { λ r. ⌜ r .from ≤ length (now (text .entry)) ⌝ }
+{
+    if !skipping {
+        return Start {
+            from: 0,
+            skipping: false,
+        };
+    }
+    let end = bytes::scan::find(text, 0, text.len(), 10);
+    if end == text.len() {
+        return Start {
+            from: end,
+            skipping: true,
+        };
+    }
+    Start {
+        from: end + 1,
+        skipping: false,
+    }
+}
+
+// Answers every whole line of what was read, past the rest of a long line.
+fn take_lines(
+    frame: Frame,
+    skipping: bool,
+    text: &[u8],
+    input: &mut [f32],
+    first: &mut [f32],
+    second: &mut [f32],
+    bytes: &mut [u8],
+    out: &mut [u8],
+) -> Taken {
+    let begin = lines_begin(text, skipping);
+    let from = begin.from;
+    let r = answer_lines(frame, &text[from..], input, first, second, bytes, out);
+    let next = r.frame;
+    Taken {
+        frame: next,
+        used: from + r.used,
+        skipping: begin.skipping,
+        going: r.going,
+    }
+}
+
+// Reads once behind what is held, and answers how many bytes there are then.
+fn fill(buffer: &mut [u8], held: usize) -> usize {
+    if buffer.len() <= held {
+        return held;
+    }
+    let got = libc::read(STDIN_FILENO, &mut buffer[held..]);
+    held + io::count(got, &buffer[held..])
+}
+
+// Moves the bytes from `from` up to `end` to the buffer's start, and answers how many they are.
+fn keep(buffer: &mut [u8], from: usize, end: usize) -> usize {
+    if buffer.len() < end {
+        return 0;
+    }
+    if end < from {
+        return 0;
+    }
+    let n = end - from;
+    let mut i = 0usize;
+    while i < n {
+        buffer[i] = buffer[from + i];
+        i += 1;
+    }
+    n
+}
+
+// The input has ended. The last line may lack its line feed.
+fn last(
+    state: State,
+    buffer: &[u8],
+    input: &mut [f32],
+    first: &mut [f32],
+    second: &mut [f32],
+    bytes: &mut [u8],
+    out: &mut [u8],
+) -> State {
+    let frame = state.frame;
+    let n = within(state.held, buffer);
+    let turn = answers::answer(frame, &buffer[..n], input, first, second, bytes, out, 0);
+    let next = turn.frame;
+    send(out, turn.at);
+    State {
+        frame: next,
+        held: 0,
+        skipping: false,
+        going: false,
+    }
+}
+
+// Reads once, answers the lines that are whole, and holds the rest.
+fn step(
+    state: State,
+    buffer: &mut [u8],
+    input: &mut [f32],
+    first: &mut [f32],
+    second: &mut [f32],
+    bytes: &mut [u8],
+    out: &mut [u8],
+) -> State {
+    let filled = fill(buffer, state.held);
+    if filled == state.held {
+        return last(state, buffer, input, first, second, bytes, out);
+    }
+    let end = within(filled, buffer);
+    let frame = state.frame;
+    let taken = take_lines(
+        frame,
+        state.skipping,
+        &buffer[..end],
+        input,
+        first,
+        second,
+        bytes,
+        out,
+    );
+    let next = taken.frame;
+    let kept = keep(buffer, taken.used, end);
+    if LONGEST < kept {
+        return State {
+            frame: next,
+            held: 0,
+            skipping: true,
+            going: io::write_all(STDOUT_FILENO, b"? long line\n"),
+        };
+    }
+    State {
+        frame: next,
+        held: kept,
+        skipping: taken.skipping,
+        going: taken.going,
+    }
+}
+
+// A proved loop has to end, and nothing says that the input does. So the loop counts its turns down, from a number that no run uses up.
+fn serve(
+    buffer: &mut [u8],
+    input: &mut [f32],
+    first: &mut [f32],
+    second: &mut [f32],
+    bytes: &mut [u8],
+    out: &mut [u8],
+) {
+    let mut state = State {
+        frame: Frame::fresh(),
+        held: 0,
+        skipping: false,
+        going: true,
+    };
+    let mut turns = u64::MAX;
+    while turns > 0 && state.going {
+        state = step(state, buffer, input, first, second, bytes, out);
+        turns -= 1;
+    }
+}
+
+fn main() {
+    let mut buffer = [0u8; 131072];
+    let mut input = [0.0f32; 1024];
+    let mut first = [0.0f32; 1024];
+    let mut second = [0.0f32; 1024];
+    let mut bytes = [0u8; 4096];
+    let mut out = [0u8; 98304];
+    serve(
+        &mut buffer,
+        &mut input,
+        &mut first,
+        &mut second,
+        &mut bytes,
+        &mut out,
+    );
+}
