@@ -1,2 +1,6 @@
 pub mod Copies
-pub mod Answers
+pub mod Forms
+pub mod Refused
+pub mod Ran
+pub mod RanTwo
+pub mod Rows

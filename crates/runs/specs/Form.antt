@@ -2,28 +2,29 @@
 use Prim.Native.Nat.{ℕ}
 use mathlib.Core.Bool.{Bool, true, false, cond}
 use Rattle.filter_core.specs.Refusal.{stepRefusal}
-use Rattle.runs.specs.Kind.{Kind, dc, onePole, svf, naive, modified, crossover}
+use Rattle.any_filter.specs.declared.FilterType.{FilterType}
+use Rattle.any_filter.specs.declared.FilterType.the-variants.{DcBlocker, OnePole, Svf, NaiveSvf, ModifiedSvf, CrossoverSvf}
 use Rattle.runs.specs.declared.RunForm.{RunForm}
 use Rattle.runs.specs.declared.RunForm.the-variants.{Plain, Gain, Stride, Multimode, Decimate, Gains, Pair, Split}
 
-abbrev pub isSvf : Kind → Bool
-isSvf dc = false
-isSvf onePole = false
-isSvf svf = true
-isSvf naive = false
-isSvf modified = false
-isSvf crossover = false
+abbrev pub isSvf : FilterType → Bool
+isSvf DcBlocker = false
+isSvf OnePole = false
+isSvf Svf = true
+isSvf NaiveSvf = false
+isSvf ModifiedSvf = false
+isSvf CrossoverSvf = false
 
-abbrev pub isNaive : Kind → Bool
-isNaive dc = false
-isNaive onePole = false
-isNaive svf = false
-isNaive naive = true
-isNaive modified = false
-isNaive crossover = false
+abbrev pub isNaive : FilterType → Bool
+isNaive DcBlocker = false
+isNaive OnePole = false
+isNaive Svf = false
+isNaive NaiveSvf = true
+isNaive ModifiedSvf = false
+isNaive CrossoverSvf = false
 
 -- the forms with one output
-abbrev pub hasForm : Kind → RunForm → Bool
+abbrev pub hasForm : FilterType → RunForm → Bool
 hasForm k (Plain mode) = true
 hasForm k (Gain mode gain) = isSvf k
 hasForm k (Stride mode step) = isSvf k
@@ -34,7 +35,7 @@ hasForm k (Pair a b) = false
 hasForm k Split = false
 
 -- the forms with two outputs
-abbrev pub hasFormTwo : Kind → RunForm → Bool
+abbrev pub hasFormTwo : FilterType → RunForm → Bool
 hasFormTwo k (Plain mode) = false
 hasFormTwo k (Gain mode gain) = false
 hasFormTwo k (Stride mode step) = false
@@ -56,8 +57,11 @@ formRefusal (Pair a b) = 0
 formRefusal Split = 0
 
 -- 9, then 10
-abbrev pub runRefusal : Kind → RunForm → ℕ
-runRefusal k form = cond (hasForm k form) (formRefusal form) 9
+abbrev pub refusalIf : Bool → RunForm → ℕ
+refusalIf has form = cond has (formRefusal form) 9
 
-abbrev pub runTwoRefusal : Kind → RunForm → ℕ
-runTwoRefusal k form = cond (hasFormTwo k form) (formRefusal form) 9
+abbrev pub runRefusal : FilterType → RunForm → ℕ
+runRefusal k form = refusalIf (hasForm k form) form
+
+abbrev pub runTwoRefusal : FilterType → RunForm → ℕ
+runTwoRefusal k form = refusalIf (hasFormTwo k form) form

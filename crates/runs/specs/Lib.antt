@@ -1,3 +1,3 @@
-pub mod Kind
 pub mod Form
 pub mod Run
+pub mod Rows

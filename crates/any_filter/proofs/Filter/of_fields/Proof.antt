@@ -1,0 +1,48 @@
+use Rattle.any_filter.proofs.Laws.{cases}
+use Rattle.any_filter.proofs.Filter.of_fields.Statement.{statement}
+use Rattle.any_filter.proofs.Filter.of_fields.Tie as tie
+
+pub of-fields-spec : {M : Type 1} → statement M
+of-fields-spec =
+    tie.close
+    (tie.spec
+    (λ c. search cases)
+    (λ c. search cases)
+    (λ c. search cases)
+    (λ c. search cases)
+    (λ c. search cases)
+    (λ c. search cases)
+    (λ c. search cases)
+    (λ c. search cases)
+    (λ c. search cases)
+    (λ c. search cases)
+    (λ c. search cases)
+    (λ c. search cases)
+    (λ c. search cases)
+    (λ c. search cases)
+    (λ c. search cases)
+    (λ c. search cases)
+    (λ c. search cases)
+    (λ c. search cases)
+    (λ c. search cases)
+    (λ c. search cases)
+    (λ c. search cases)
+    (λ c. search cases)
+    (λ c. search cases)
+    (λ c. search cases)
+    (λ c. search cases)
+    (λ c. search cases)
+    (λ c. search cases)
+    (λ c. search cases)
+    (λ c. search cases)
+    (λ c. search cases)
+    (λ c. search cases)
+    (λ c. search cases)
+    (λ c. search cases)
+    (λ c. search cases)
+    (λ c. search cases)
+    (λ c. search cases)
+    (λ c. search cases)
+    (λ c. search cases)
+    (λ c. search cases)
+    (λ c. search cases))

@@ -1,0 +1,11 @@
+use Rattle.runs.proofs.Forms.{refusing}
+use Rattle.runs.proofs.form.run_two_refusal.Statement.{statement}
+use Rattle.runs.proofs.form.run_two_refusal.Tie as tie
+
+pub run-two-refusal-spec : {M : Type 1} → statement M
+run-two-refusal-spec =
+    tie.close
+    (tie.spec
+    (λ c κs. search refusing)
+    (λ c κs. search refusing)
+    (λ c. search refusing))
