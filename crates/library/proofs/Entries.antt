@@ -5,11 +5,10 @@ use mathlib.Core.List.{List, [], map}
 use native.Mathlib.Omega.{arith}
 use borrow.Author.Needs.{needs, length-unmapped}
 use lib.ListN.{length, getD, take, drop, drop-of-length-le, List·getD-eq-default}
-use Rattle.words.specs.Word.{wordFrom}
-use Rattle.library.specs.Entry.{entryOf}
+use Rattle.sheets.specs.Sheet.{entryOf}
+use Rattle.sheets.specs.declared.entry.Entry.{Entry}
 use Rattle.library.specs.Library.{settingIn, entryAt}
 use Rattle.library.specs.declared.Library.{Library}
-use Rattle.library.specs.declared.entry.Entry.{Entry}
 
 pub setting-room : (l : List ℕ) (e : ℕ) → length (map (λ (v : ℕ). v) l) ≡ 768 → e ≤ 63 → 12 * e + 12 ≤ length l
 setting-room l e s h = let w = length-unmapped ℕ l 768 s in omega arith
@@ -18,23 +17,18 @@ setting-room l e s h = let w = length-unmapped ℕ l 768 s in omega arith
 abbrev part : List ℕ → ℕ → List ℕ
 part s at = take (at + 12 - at) (drop at s)
 
-pub entry-inside : (l : Library) (e : ℕ) {a b c : ℕ} {r : Entry}
-    → a ≡ wordFrom (part (l .settings) (12 * e)) 0 → b ≡ wordFrom (part (l .settings) (12 * e)) 4 → c ≡ wordFrom (part (l .settings) (12 * e)) 8
-    → r ≡ entryOf (getD (l .kinds) e 0) a b c → r ≡ entryAt l e
-entry-inside l e {a} {b} {c} x y z h =
+pub entry-inside : (l : Library) (e : ℕ) {r : Entry} → r ≡ entryOf (getD (l .kinds) e 0) (part (l .settings) (12 * e)) → r ≡ entryAt l e
+entry-inside l e h =
     let w : 12 * e + 12 - 12 * e ≡ 12 = omega arith in
-    let x′ : a ≡ wordFrom (settingIn l e) 0 = x ∙ rw w refl in
-    let y′ : b ≡ wordFrom (settingIn l e) 4 = y ∙ rw w refl in
-    let z′ : c ≡ wordFrom (settingIn l e) 8 = z ∙ rw w refl in
-    h ∙ rw (x′, y′, z′) refl
+    h ∙ rw w refl
 
-pub entry-past : (l : Library) (e : ℕ) {r : Entry} → length (map (λ (v : ℕ). v) (l .kinds)) ≡ 64 → length (map (λ (v : ℕ). v) (l .settings)) ≡ 768
-    → 63 < e → r ≡ entryOf 0 0 0 0 → r ≡ entryAt l e
-entry-past l e k s h q =
+pub entry-past : (l : Library) (e : ℕ) → length (map (λ (v : ℕ). v) (l .kinds)) ≡ 64 → length (map (λ (v : ℕ). v) (l .settings)) ≡ 768
+    → 63 < e → _≡_ {A = Entry} (record { kind = 0; a = 0; b = 0; c = 0 }) (entryAt l e)
+entry-past l e k s h =
     let a = length-unmapped ℕ (l .kinds) 64 k in
     let b = length-unmapped ℕ (l .settings) 768 s in
     let c : getD (l .kinds) e 0 ≡ 0 = List·getD-eq-default (l .kinds) 0 (omega arith) in
     let d : drop (12 * e) (l .settings) ≡ [] = drop-of-length-le (l .settings) {i = 12 * e} (omega arith) in
-    q ∙ rw (c, d) refl
+    rw (c, d) refl
 
 pub ruleset entries = (setting-room, entry-inside, entry-past, needs)

@@ -1,4 +1,4 @@
-pub mod Copies
+pub mod Zeros
 pub mod Readings
 pub mod Writings
 pub mod Entries

@@ -9,7 +9,8 @@ use lib.ListN.{length, take, drop, length-drop}
 use lib.Seq.{take-all}
 use Rattle.sheets.specs.Sheet.{entriesOf, checkOf, Sized}
 use Rattle.sheets.proofs.Checks.{check-size}
-use Rattle.library.specs.Library.{over, zeros, none, libraryOf, readOf}
+use Rattle.words.specs.Over.{over}
+use Rattle.library.specs.Library.{zeroBytes, none, libraryOf, readOf}
 use Rattle.library.specs.declared.Library.{Library}
 use Rattle.library.specs.declared.Reading.{Reading}
 
@@ -30,7 +31,7 @@ module _ (s : List ℕ) {number : ℕ} (p : number ≡ checkOf s) where
       record { most = omega arith; long = omega arith }
 
   pub a-reading : (n : ℕ) {kinds settings : List ℕ} → number ≡ 0 → n ≡ entriesOf s
-      → kinds ≡ over 0 (take (2 + n - 2) (drop 2 s)) (zeros 64) → settings ≡ over 0 (take (length s - (2 + n)) (drop (2 + n) s)) (zeros 768)
+      → kinds ≡ over 0 (take (2 + n - 2) (drop 2 s)) (zeroBytes 64) → settings ≡ over 0 (take (length s - (2 + n)) (drop (2 + n) s)) (zeroBytes 768)
       → _≡_ {A = Reading} (record { number = 0; library = record { n = n; kinds = kinds; settings = settings } }) (readOf s)
   a-reading n {kinds} {settings} z q x y =
       let a : 2 + n - 2 ≡ n = omega arith in

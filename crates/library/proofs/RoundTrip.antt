@@ -6,24 +6,18 @@ use native.Mathlib.Omega.{arith}
 use borrow.Author.Tests.{ne-eqb, le-ltb}
 use lib.ListN.{length, getD, take, drop, length-take, length-drop, take-append-drop}
 use lib.Seq.{take-all, take-length, take-take, take-append-seam, drop-drop, getD-take, getD-drop}
-use Rattle.words.specs.Word.{wordFrom}
-use Rattle.sheets.specs.Sheet.{entriesOf, Sized, kindAt, settingAt, wordAt, checkOf}
+use Rattle.words.specs.Over.{over}
+use Rattle.words.proofs.Copies.{over-none, over-all, over-front}
+use Rattle.sheets.specs.Sheet.{entriesOf, Sized, kindAt, settingAt, entryIn, checkOf}
 use Rattle.sheets.specs.Rows.{Sheet}
 use Rattle.sheets.proofs.Rows.{sheet-check}
-use Rattle.library.specs.Entry.{entryOf}
-use Rattle.library.specs.Library.{over, zeros, none, libraryOf, readOf, bytesOf, settingIn, entryAt, writeRefusal, writeOf, writtenOf}
+use Rattle.library.specs.Library.{zeroBytes, none, libraryOf, readOf, bytesOf, settingIn, entryAt, writeRefusal, writeOf, writtenOf}
 use Rattle.library.specs.RoundTrip.{Rewritten, ReadWrite, WriteRead, RefusedWrite, OneSheet, Same, SameEntries}
 use Rattle.library.specs.declared.Written.{Written}
 use Rattle.library.specs.declared.Reading.{Reading}
-use Rattle.library.proofs.Copies.{length-zeros, over-none, over-front}
+use Rattle.library.proofs.Zeros.{length-zero-bytes}
 
 -- ---- lists
-
-over-all : (xs ys : List ℕ) → length xs ≤ length ys → over 0 xs ys ≡ xs ++ drop (length xs) ys
-unfolding over
-over-all [] ys h = refl
-over-all (x ∷ xs) [] h = absurd (omega arith)
-over-all (x ∷ xs) (y ∷ ys) h = ap (λ (l : List ℕ). x ∷ l) (over-all xs ys (omega arith))
 
 -- a part of the first n
 part-of-first : (k m n : ℕ) (l : List ℕ) → k + m ≤ n → take m (drop k (take n l)) ≡ take m (drop k l)
@@ -46,7 +40,7 @@ module _ (s : List ℕ) (z : Sized s) where
       let l = z .long in
       let m = z .most in
       let k : length (take n (drop 2 s)) ≡ n = length-take n (drop 2 s) ∙ rw (length-drop 2 s) (omega arith) in
-      over-front n (take n (drop 2 s)) (zeros 64) (omega arith) (omega (arith, length-zeros 64))
+      over-front n (take n (drop 2 s)) (zeroBytes 64) (omega arith) (omega (arith, length-zero-bytes 64))
       ∙ take-take n n (drop 2 s) (omega arith)
 
   pub settings-in : take (12 * entriesOf s) (libraryOf s .settings) ≡ drop (2 + entriesOf s) s
@@ -55,7 +49,7 @@ module _ (s : List ℕ) (z : Sized s) where
       let l = z .long in
       let m = z .most in
       let k : length (drop (2 + n) s) ≡ 12 * n = length-drop (2 + n) s ∙ omega arith in
-      over-front (12 * n) (drop (2 + n) s) (zeros 768) (omega arith) (omega (arith, length-zeros 768))
+      over-front (12 * n) (drop (2 + n) s) (zeroBytes 768) (omega arith) (omega (arith, length-zero-bytes 768))
       ∙ take-all (12 * n) (drop (2 + n) s) (omega arith)
 
   -- the sheet of the library is the sheet
@@ -115,7 +109,7 @@ module _ (s : List ℕ) (h : Sheet s) (e : ℕ) (l : e < entriesOf s) where
       ∙ ap (λ (x : List ℕ). take 12 (drop (12 * e) x)) (settings-in s (h .size))
       ∙ ap (take 12) (drop-drop (12 * e) (2 + n) s)
 
-  pub entry-in : entryAt (libraryOf s) e ≡ entryOf (kindAt s e) (wordAt s e 0) (wordAt s e 1) (wordAt s e 2)
+  pub entry-in : entryAt (libraryOf s) e ≡ entryIn s e
   entry-in = rw (kind-in, setting-in) refl
 
 pub same-entries : SameEntries
@@ -123,5 +117,4 @@ same-entries s h = record { number = refl; most = h .size .most; entry = λ e l.
 
 -- no bytes stand for no library
 pub no-sheet : libraryOf [] ≡ none
-unfolding over
-no-sheet = refl
+no-sheet = simp over-none

@@ -9,10 +9,12 @@ use borrow.Author.Tests.{ltb-false, eqb-true}
 use lib.Dec.{eqb, ltb}
 use lib.ListN.{length, getD, set, take, drop, length-append}
 use lib.Seq.{length-take-le}
-use Rattle.library.specs.Library.{over, zeros, bytesOf, writeRefusal, writtenLength, writeOf, writtenOf}
+use Rattle.words.specs.Over.{over}
+use Rattle.words.proofs.Copies.{over-append, over-front}
+use Rattle.library.specs.Library.{zeroBytes, bytesOf, writeRefusal, writtenLength, writeOf, writtenOf}
 use Rattle.library.specs.declared.Library.{Library}
 use Rattle.library.specs.declared.Written.{Written}
-use Rattle.library.proofs.Copies.{length-zeros, over-append, over-front}
+use Rattle.library.proofs.Zeros.{length-zero-bytes}
 
 -- the arrays have room for as many as 64 entries
 module _ (l : List ℕ) (n : ℕ) (h : n ≤ 64) where
@@ -28,24 +30,19 @@ module _ (l : List ℕ) (n : ℕ) (h : n ≤ 64) where
   pub settings-count : length (map (λ (v : ℕ). v) l) ≡ 768 → 12 * n ≡ length (take (12 * n) l)
   settings-count e = sym (length-take-le (12 * n) l (settings-room e))
 
-two : (a b : ℕ) (ys : List ℕ) → set (set ys 0 a) 1 b ≡ over 0 (a ∷ b ∷ []) ys
-unfolding over
-two a b [] = refl
-two a b (y ∷ []) = refl
-two a b (y ∷ (z ∷ ys)) = refl
-
--- the sheet of a library, as it is put together
-pub put-together : (l : Library) (ys : List ℕ) {a b : ℕ} {x y : List ℕ} → length (map (λ (v : ℕ). v) (l .kinds)) ≡ 64 → l .n ≤ 64
-    → a ≡ l .n % 256 → b ≡ l .n / 256 % 256 → x ≡ over 2 (take (l .n) (l .kinds)) (set (set ys 0 a) 1 b)
-    → y ≡ over (2 + l .n) (take (12 * l .n) (l .settings)) x → y ≡ over 0 (bytesOf l) ys
-put-together l ys {a} {b} {x} {y} k h p q e f =
+-- the sheet of a library, as it is put together: n, the kind bytes, the settings
+pub put-together : (l : Library) {a b : ℕ} {w x y : List ℕ} → length (map (λ (v : ℕ). v) (l .kinds)) ≡ 64 → l .n ≤ 64
+    → a ≡ l .n % 256 → b ≡ l .n / 256 % 256 → w ≡ over 0 (a ∷ b ∷ []) (zeroBytes 834) → x ≡ over 2 (take (l .n) (l .kinds)) w
+    → y ≡ over (2 + l .n) (take (12 * l .n) (l .settings)) x → y ≡ over 0 (bytesOf l) (zeroBytes 834)
+put-together l {a} {b} {w} {x} {y} k h p q d e f =
     let n = l .n in
     let K = take n (l .kinds) in
-    let w : b ≡ n / 256 = q ∙ omega arith in
+    let z = length-zero-bytes 834 in
+    let v : b ≡ n / 256 = q ∙ omega arith in
     let c = kinds-count (l .kinds) n h k in
-    let head : x ≡ over 0 (a ∷ b ∷ K) ys = e ∙ ap (over 2 K) (two a b ys) ∙ over-append 0 (a ∷ b ∷ []) K ys in
+    let head : x ≡ over 0 (a ∷ b ∷ K) (zeroBytes 834) = e ∙ ap (over 2 K) d ∙ over-append 0 (a ∷ b ∷ []) K (zeroBytes 834) (omega arith) in
     let place : 2 + n ≡ 0 + length (a ∷ b ∷ K) = omega arith in
-    f ∙ rw (place, head) (over-append 0 (a ∷ b ∷ K) (take (12 * n) (l .settings)) ys ∙ rw (p, w) refl)
+    f ∙ rw (place, head) (over-append 0 (a ∷ b ∷ K) (take (12 * n) (l .settings)) (zeroBytes 834) (omega arith) ∙ rw (p, v) refl)
 
 -- ---- what is written of it
 
@@ -73,7 +70,7 @@ length-bytes l k s h =
 module _ (l : Library) (k : length (map (λ (v : ℕ). v) (l .kinds)) ≡ 64) (s : length (map (λ (v : ℕ). v) (l .settings)) ≡ 768) where
   -- a write with the number r, of m places, puts into the output the first m bytes that were put together
   pub written : (out : List ℕ) {r m : ℕ} {ys zs : List ℕ} → r ≡ writeRefusal (l .n) (length out) → m ≡ writtenLength r (l .n)
-      → (l .n ≤ 64 → ys ≡ over 0 (bytesOf l) (zeros 834)) → zs ≡ over 0 (take m ys) out → zs ≡ writtenOf l out
+      → (l .n ≤ 64 → ys ≡ over 0 (bytesOf l) (zeroBytes 834)) → zs ≡ over 0 (take m ys) out → zs ≡ writtenOf l out
   written out {r} {m} {ys} {zs} p q b e = go (eqb r 0) refl
     where
       n : ℕ
@@ -83,9 +80,9 @@ module _ (l : Library) (k : length (map (λ (v : ℕ). v) (l .kinds)) ≡ 64) (s
       go true t =
           let h : n ≤ 64 = few n (length out) p (eqb-true r 0 t) in
           let w : m ≡ 2 + 13 * n = q ∙ rw t refl in
-          let a : 2 + 13 * n ≤ length (bytesOf l) = omega (arith, length-bytes l (length-unmapped ℕ (l .kinds) 64 k) (length-unmapped ℕ (l .settings) 768 s) h) in
-          let f : take (2 + 13 * n) (over 0 (bytesOf l) (zeros 834)) ≡ take (2 + 13 * n) (bytesOf l) =
-          over-front (2 + 13 * n) (bytesOf l) (zeros 834) a (omega (arith, length-zeros 834)) in
+          let a = length-bytes l (length-unmapped ℕ (l .kinds) 64 k) (length-unmapped ℕ (l .settings) 768 s) h in
+          let z = length-zero-bytes 834 in
+          let f = over-front (2 + 13 * n) (bytesOf l) (zeroBytes 834) (omega arith) (omega arith) in
           e ∙ rw (w, b h, f, ← p, t) refl
       go false t = let w : m ≡ 0 = q ∙ rw t refl in e ∙ rw (w, ← p, t) refl
 
@@ -93,4 +90,4 @@ pub write-answer : (l : Library) (out : List ℕ) {r m : ℕ} → r ≡ writeRef
     → _≡_ {A = Written} (record { number = r; length = m }) (writeOf l out)
 write-answer l out {r} {m} p q = rw (q, p) refl
 
-pub ruleset writings = (kinds-room, kinds-count, settings-room, settings-count, few, part-count, written, write-answer, needs)
+pub ruleset writings = (kinds-room, kinds-count, settings-room, settings-count, put-together, few, part-count, written, write-answer, needs)

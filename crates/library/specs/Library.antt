@@ -1,37 +1,27 @@
 -- A library: a sheet's entries, held by value.
-use Prim.Native.Nat.{ℕ, zero, suc, _+_, _*_, _%_, _/_}
+use Prim.Native.Nat.{ℕ, _+_, _*_, _%_, _/_}
 use mathlib.Core.Bool.{cond}
-use mathlib.Core.List.{List, [], _∷_, _++_}
+use mathlib.Core.List.{List, _∷_, _++_}
 use lib.Dec.{eqb, ltb}
 use lib.ListN.{length, getD, take, drop, replicate}
-use Rattle.words.specs.Word.{wordFrom}
-use Rattle.sheets.specs.Refusal.{_then_}
-use Rattle.sheets.specs.Sheet.{entriesOf, checkOf}
-use Rattle.library.specs.Entry.{entryOf}
+use Rattle.words.specs.Over.{over}
+use Rattle.sheets.specs.Sheet.{entriesOf, entryOf, checkOf}
+use Rattle.sheets.specs.declared.entry.Entry.{Entry}
 use Rattle.library.specs.declared.Library.{Library}
 use Rattle.library.specs.declared.Reading.{Reading}
 use Rattle.library.specs.declared.Written.{Written}
-use Rattle.library.specs.declared.entry.Entry.{Entry}
 
--- xs written over ys from the place `at` on: places before and after keep their contents
-unfoldable pub over : ℕ → List ℕ → List ℕ → List ℕ
-over (suc at) xs [] = []
-over (suc at) xs (y ∷ ys) = y ∷ over at xs ys
-over zero [] ys = ys
-over zero (x ∷ xs) [] = []
-over zero (x ∷ xs) (y ∷ ys) = x ∷ over 0 xs ys
-
-unfoldable pub zeros : ℕ → List ℕ
-zeros m = replicate m 0
+unfoldable pub zeroBytes : ℕ → List ℕ
+zeroBytes m = replicate m 0
 
 -- ---- reading
 
 abbrev pub none : Library
-none = record { n = 0; kinds = zeros 64; settings = zeros 768 }
+none = record { n = 0; kinds = zeroBytes 64; settings = zeroBytes 768 }
 
 -- the library of a sheet: its kind bytes and its settings, each with zeros behind
 abbrev pub libraryOf : List ℕ → Library
-libraryOf s = record { n = entriesOf s; kinds = over 0 (take (entriesOf s) (drop 2 s)) (zeros 64); settings = over 0 (drop (2 + entriesOf s) s) (zeros 768) }
+libraryOf s = record { n = entriesOf s; kinds = over 0 (take (entriesOf s) (drop 2 s)) (zeroBytes 64); settings = over 0 (drop (2 + entriesOf s) s) (zeroBytes 768) }
 
 -- what is no sheet has no library
 abbrev pub readOf : List ℕ → Reading
@@ -43,7 +33,7 @@ abbrev pub settingIn : Library → ℕ → List ℕ
 settingIn l e = take 12 (drop (12 * e) (l .settings))
 
 abbrev pub entryAt : Library → ℕ → Entry
-entryAt l e = entryOf (getD (l .kinds) e 0) (wordFrom (settingIn l e) 0) (wordFrom (settingIn l e) 4) (wordFrom (settingIn l e) 8)
+entryAt l e = entryOf (getD (l .kinds) e 0) (settingIn l e)
 
 -- ---- writing
 

@@ -3,9 +3,8 @@ use Prim.Native.Nat.{ℕ, _≤_, _<_}
 use mathlib.Core.Path.{_≡_}
 use mathlib.Core.List.{List, _++_}
 use lib.ListN.{length, take, drop}
-use Rattle.sheets.specs.Sheet.{entriesOf, kindAt, wordAt}
+use Rattle.sheets.specs.Sheet.{entriesOf, entryIn}
 use Rattle.sheets.specs.Rows.{Sheet}
-use Rattle.library.specs.Entry.{entryOf}
 use Rattle.library.specs.declared.Library.{Library}
 use Rattle.library.specs.Library.{libraryOf, readOf, entryAt, writeOf, writtenOf}
 
@@ -33,7 +32,7 @@ OneSheet = (s t : List ℕ) → Sheet s → Sheet t → libraryOf s ≡ libraryO
 pub record Same (s : List ℕ) : Type 0 where
   pub number : libraryOf s .n ≡ entriesOf s
   pub most : libraryOf s .n ≤ 64
-  pub entry : (e : ℕ) → e < entriesOf s → entryAt (libraryOf s) e ≡ entryOf (kindAt s e) (wordAt s e 0) (wordAt s e 1) (wordAt s e 2)
+  pub entry : (e : ℕ) → e < entriesOf s → entryAt (libraryOf s) e ≡ entryIn s e
 
 abbrev pub SameEntries : Type 0
 SameEntries = (s : List ℕ) → Sheet s → Same s

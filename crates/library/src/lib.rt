@@ -1,13 +1,11 @@
 // A library: a sheet's entries, held by value.
-mod entry;
 
-pub use entry::Entry;
-pub use entry::entry_of;
 ghost use mathlib.Core.Path.{_≡_};
 ghost use Prim.Native.Nat.{_%_, _≤_};
-ghost use lib.ListN.{length};
-ghost use Rattle.library.specs.Library.{over, zeros, none, readOf, bytesOf, writeRefusal, writtenLength, writeOf, writtenOf, entryAt};
+ghost use Rattle.words.specs.Over.{over};
+ghost use Rattle.library.specs.Library.{zeroBytes, none, readOf, bytesOf, writeRefusal, writtenLength, writeOf, writtenOf, entryAt};
 ghost use Rattle.library.specs.RoundTrip.{ReadWrite, WriteRead, RefusedWrite, OneSheet, SameEntries};
+use sheets::Entry;
 
 // The places of `kinds` and `settings` past the n entries are zeros, so a library is one value.
 pub struct Library {
@@ -37,19 +35,6 @@ pub fn none() -> Library
     }
 }
 
-// The source into the output from the place `at` on, as far as both go.
-fn copy(source: &[u8], output: &mut [u8], at: usize)
-    requires { ⌜ at ≤ length (now output) ⌝ }
-    ensures { λ _. ⌜ now (output .exit) ≡ over at (now (source .entry)) (now (output .entry)) ⌝ }
-{
-    let n = filter_core::shortest(source.len(), output.len() - at);
-    let mut i = 0;
-    while i < n {
-        output[at + i] = source[i];
-        i += 1;
-    }
-}
-
 // The sheet's library, with the number 0; or the number that refuses it, with no library.
 pub fn read(sheet: &[u8]) -> Reading
     ensures { λ r. ⌜ r ≡ readOf (now (sheet .entry)) ⌝ }
@@ -64,9 +49,9 @@ pub fn read(sheet: &[u8]) -> Reading
     let n = sheets::entries(sheet);
     let end = 2 + n;
     let mut kinds = [0u8; 64];
-    copy(&sheet[2..end], &mut kinds, 0);
+    words::copy(&sheet[2..end], &mut kinds, 0);
     let mut settings = [0u8; 768];
-    copy(&sheet[end..], &mut settings, 0);
+    words::copy(&sheet[end..], &mut settings, 0);
     Reading {
         number: 0,
         library: Library {
@@ -105,19 +90,19 @@ fn low_byte(n: usize) -> u8
 
 // The sheet of a library, in an array that holds the longest; none for more than 64 entries, which no sheet has.
 fn sheet_of(library: Library) -> [u8; 834]
-    ensures { λ r. ⌜ (library .n ≤ 64 → r ≡ over 0 (bytesOf library) (zeros 834)) ⌝ }
+    ensures { λ r. ⌜ (library .n ≤ 64 → r ≡ over 0 (bytesOf library) (zeroBytes 834)) ⌝ }
 {
     let mut bytes = [0u8; 834];
     let n = library.n;
     if 64 < n {
         return bytes;
     }
-    bytes[0] = low_byte(n);
-    bytes[1] = low_byte(n / 256);
+    let count = [low_byte(n), low_byte(n / 256)];
+    words::copy(&count, &mut bytes, 0);
     let kinds = library.kinds;
-    copy(&kinds[..n], &mut bytes, 2);
+    words::copy(&kinds[..n], &mut bytes, 2);
     let settings = library.settings;
-    copy(&settings[..12 * n], &mut bytes, 2 + n);
+    words::copy(&settings[..12 * n], &mut bytes, 2 + n);
     bytes
 }
 
@@ -129,7 +114,7 @@ pub fn write(library: Library, output: &mut [u8]) -> Written
     let number = write_refusal(library.n, output.len());
     let length = written_length(number, library.n);
     let bytes = sheet_of(library);
-    copy(&bytes[..length], output, 0);
+    words::copy(&bytes[..length], output, 0);
     Written {
         number: number,
         length: length,
@@ -141,16 +126,17 @@ pub fn entry_at(library: Library, e: usize) -> Entry
     ensures { λ r. ⌜ r ≡ entryAt library e ⌝ }
 {
     if 63 < e {
-        return entry_of(0, 0, 0, 0);
+        return Entry {
+            kind: 0,
+            a: 0,
+            b: 0,
+            c: 0,
+        };
     }
     let kinds = library.kinds;
     let settings = library.settings;
     let at = 12 * e;
-    let setting = &settings[at..at + 12];
-    let a = words::word_at(setting, 0);
-    let b = words::word_at(setting, 4);
-    let c = words::word_at(setting, 8);
-    entry_of(kinds[e], a, b, c)
+    sheets::entry_of(kinds[e], &settings[at..at + 12])
 }
 
 // Reading a sheet and writing its library gives the sheet's bytes.

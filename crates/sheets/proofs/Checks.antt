@@ -1,6 +1,6 @@
 -- The check of a sheet: the first refusal of several, and what an accepted size tells. Assumes nothing.
 use Prim.Native.Nat.{ℕ, zero, suc, _+_, _*_, _-_, _≤_, _<_}
-use mathlib.Core.Path.{_≡_, refl, sym, _∙_}
+use mathlib.Core.Path.{_≡_, refl, sym, ap, _∙_}
 use mathlib.Core.Bool.{Bool, true, false, cond}
 use mathlib.Core.List.{List, []}
 use native.Mathlib.Numerals.{add-one}
@@ -10,10 +10,9 @@ use borrow.Author.Tests.{eqb-true, eqb-false, eq-eqb, ne-eqb, ltb-true, ltb-fals
 use lib.Dec.{eqb, ltb}
 use lib.ListN.{length, take, drop}
 use Rattle.words.specs.Word.{wordFrom, otherNan}
-use Rattle.sheets.specs.Kind.{setterOf}
-use Rattle.sheets.specs.Refusal.{_then_, firstRefusal, wordRefusal, refusalOf}
-use Rattle.sheets.specs.Sheet.{entriesOf, Sized, kindAt, settingAt, wordAt, sizeRefusal, refusalAt, checkOf, entryNumberRefusal, checkEntryOf, lookupOf}
-use Rattle.sheets.specs.declared.setter.Setter.{Setter}
+use Rattle.sheets.specs.Refusal.{_then_, firstRefusal, wordRefusal, entryRefusal}
+use Rattle.sheets.specs.Sheet.{entriesOf, Sized, kindAt, entryOf, entryIn, sizeRefusal, refusalAt, checkOf, entryNumberRefusal, checkEntryOf, lookupOf}
+use Rattle.sheets.specs.declared.entry.Entry.{Entry}
 
 -- ---- the first refusal of two, and of many
 
@@ -171,15 +170,17 @@ module _ (s : List ℕ) (e : ℕ) {number : ℕ} (p : number ≡ checkEntryOf s 
   pub the-part : (n : ℕ) → number ≡ 0 → n ≡ entriesOf s → part s (2 + n + 12 * e) ≡ lookupOf s e
   the-part n z q = rw (← p, eq-eqb number 0 z, twelve, q) refl
 
--- the refusal of an entry, from its bytes
-pub refused-at : (s : List ℕ) (n e : ℕ) {k a b c r : ℕ} {setter : Setter} → n ≡ entriesOf s → k ≡ kindAt s e → setter ≡ setterOf k
-    → a ≡ wordFrom (part s (2 + n + 12 * e)) 0 → b ≡ wordFrom (part s (2 + n + 12 * e)) 4 → c ≡ wordFrom (part s (2 + n + 12 * e)) 8
-    → r ≡ refusalOf setter a b c → r ≡ refusalAt s e
-refused-at s n e {k} {a} {b} {c} p q g x y z h =
-    let t = twelve (2 + n + 12 * e) s in
-    let x′ : a ≡ wordAt s e 0 = x ∙ rw (t, p) refl in
-    let y′ : b ≡ wordAt s e 1 = y ∙ rw (t, p) refl in
-    let z′ : c ≡ wordAt s e 2 = z ∙ rw (t, p) refl in
-    h ∙ cc
+-- ---- an entry
 
-pub ruleset checks = (none-then, some-then, first-start, first-again, first-found, first-none, size-refused, size-accepted, checked, no-part, the-part, refused-at, needs)
+pub entry-made : (k : ℕ) (t : List ℕ) {a b c : ℕ} → a ≡ wordFrom t 0 → b ≡ wordFrom t 4 → c ≡ wordFrom t 8
+    → _≡_ {A = Entry} (record { kind = k; a = a; b = b; c = c }) (entryOf k t)
+entry-made k t x y z = λ i. record { kind = k; a = x i; b = y i; c = z i }
+
+-- the refusal of an entry, from its bytes
+pub refused-at : (s : List ℕ) (n e : ℕ) {k r : ℕ} {t : Entry} → n ≡ entriesOf s → k ≡ kindAt s e → t ≡ entryOf k (part s (2 + n + 12 * e))
+    → r ≡ entryRefusal t → r ≡ refusalAt s e
+refused-at s n e {k} {r} {t} p q g h =
+    let w : t ≡ entryIn s e = g ∙ rw (twelve, p, q) refl in
+    h ∙ ap entryRefusal w
+
+pub ruleset checks = (none-then, some-then, first-start, first-again, first-found, first-none, size-refused, size-accepted, checked, no-part, the-part, entry-made, refused-at, needs)

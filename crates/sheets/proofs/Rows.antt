@@ -17,8 +17,9 @@ use Rattle.words.specs.Word.{wordFrom, writtenNan, otherNan}
 use Rattle.words.proofs.Words.{nan-test, comes-back}
 use Rattle.sheets.specs.Kind.{approximated, exact, setterFor, setterOf, kindRefusal}
 use Rattle.sheets.specs.Refusal.{_then_, firstRefusal, used, wordRefusal, wordsRefusal, settingRefusal, entryRefusal}
-use Rattle.sheets.specs.Sheet.{entriesOf, Sized, sizeRefusal, kindAt, settingAt, wordAt, refusalAt, checkOf, entryNumberRefusal, checkEntryOf, lookupOf}
+use Rattle.sheets.specs.Sheet.{entriesOf, Sized, sizeRefusal, kindAt, settingAt, wordAt, entryIn, refusalAt, checkOf, entryNumberRefusal, checkEntryOf, lookupOf}
 use Rattle.sheets.specs.Rows.{Takes, KindRight, WordRight, WordsRight, FrequencyRight, EntryRow, is-right, wrong-kind, wrong-word, wrong-frequency, RowAt, Sheet, SheetRow, is-sheet, wrong-size, wrong-entry, LookupRow, is-found, no-sheet, no-entry, Checked, Bytes, WordsReturn}
+use Rattle.sheets.specs.declared.entry.Entry.{Entry}
 use Rattle.sheets.specs.declared.setter.Setter.{Setter}
 use Rattle.sheets.specs.declared.setter.Setter.the-variants.{DcBlocker, OnePole, SvfFrequency, SvfCoefficients, NaiveSvf, ModifiedSvf, CrossoverSvf, Unknown}
 use Rattle.sheets.proofs.Checks.{then-zero, none-then, some-then, first-found, size-zero, sized, found}
@@ -131,17 +132,17 @@ either-then : {a b : ℕ} → Either 4 a → Either 4 b → Either 4 (a then b)
 either-then (inl p) y = rw p y
 either-then (inr p) y = rw p (inr refl)
 
-words-either : (u a b c : ℕ) → Either 4 (wordsRefusal u a b c)
-words-either u a b c = either-then (word-either u 0 a) (either-then (word-either u 1 b) (word-either u 2 c))
+words-either : (u : ℕ) (t : Entry) → Either 4 (wordsRefusal u t)
+words-either u t = either-then (word-either u 0 (t .a)) (either-then (word-either u 1 (t .b)) (word-either u 2 (t .c)))
 
-words-right : (s : Setter) (a b c : ℕ) → wordsRefusal (used s) a b c ≡ 0 → WordsRight s a b c
-words-right s a b c h =
-    let p = then-zero (wordRefusal (used s) 0 a) (wordRefusal (used s) 1 b then wordRefusal (used s) 2 c) h in
-    let q = then-zero (wordRefusal (used s) 1 b) (wordRefusal (used s) 2 c) (p .1) in
-    record { word-a = word-right (used s) 0 a (p .0); word-b = word-right (used s) 1 b (q .0); word-c = word-right (used s) 2 c (q .1) }
+words-right : (s : Setter) (t : Entry) → wordsRefusal (used s) t ≡ 0 → WordsRight s t
+words-right s t h =
+    let p = then-zero (wordRefusal (used s) 0 (t .a)) (wordRefusal (used s) 1 (t .b) then wordRefusal (used s) 2 (t .c)) h in
+    let q = then-zero (wordRefusal (used s) 1 (t .b)) (wordRefusal (used s) 2 (t .c)) (p .1) in
+    record { word-a = word-right (used s) 0 (t .a) (p .0); word-b = word-right (used s) 1 (t .b) (q .0); word-c = word-right (used s) 2 (t .c) (q .1) }
 
-words-accepted : (s : Setter) (a b c : ℕ) → WordsRight s a b c → wordsRefusal (used s) a b c ≡ 0
-words-accepted s a b c w = rw (word-accepted (used s) 0 a (w .word-a), word-accepted (used s) 1 b (w .word-b), word-accepted (used s) 2 c (w .word-c)) refl
+words-accepted : (s : Setter) (t : Entry) → WordsRight s t → wordsRefusal (used s) t ≡ 0
+words-accepted s t w = rw (word-accepted (used s) 0 (t .a) (w .word-a), word-accepted (used s) 1 (t .b) (w .word-b), word-accepted (used s) 2 (t .c) (w .word-c)) refl
 
 -- ---- frequencies
 
@@ -217,7 +218,10 @@ module _ (k w f : ℕ) where
   frequency-last : k ≡ 0 → w ≡ 0 → f ≡ (k then w then f)
   frequency-last p q = rw (p, q) refl
 
-module _ (k a b c : ℕ) where
+module _ (t : Entry) where
+  abbrev k : ℕ
+  k = t .kind
+
   abbrev s : Setter
   s = setterOf k
 
@@ -225,31 +229,31 @@ module _ (k a b c : ℕ) where
   kinds = kindRefusal s
 
   abbrev words : ℕ
-  words = wordsRefusal (used s) a b c
+  words = wordsRefusal (used s) t
 
   abbrev setting : ℕ
-  setting = settingRefusal s a
+  setting = settingRefusal s (t .a)
 
-  row-number : {r : ℕ} → EntryRow k a b c r → r ≡ entryRefusal k a b c
-  row-number (is-right t w f) = sym (frequency-accepted s a f) ∙ frequency-last kinds words setting (taken (k % 16) (k / 16) t) (words-accepted s a b c w)
+  row-number : {r : ℕ} → EntryRow t r → r ≡ entryRefusal t
+  row-number (is-right p w f) = sym (frequency-accepted s (t .a) f) ∙ frequency-last kinds words setting (taken (k % 16) (k / 16) p) (words-accepted s t w)
   row-number (wrong-kind n) = kind-first kinds words setting (other (kind-either s) (λ e. n (takes (k % 16) (k / 16) e)))
-  row-number (wrong-word t n) = word-next kinds words setting (taken (k % 16) (k / 16) t) (other (words-either (used s) a b c) (λ e. n (words-right s a b c e)))
-  row-number (wrong-frequency t w n) =
-      sym (other (setting-either s a) (λ e. n (frequency-right s a e)))
-      ∙ frequency-last kinds words setting (taken (k % 16) (k / 16) t) (words-accepted s a b c w)
+  row-number (wrong-word p n) = word-next kinds words setting (taken (k % 16) (k / 16) p) (other (words-either (used s) t) (λ e. n (words-right s t e)))
+  row-number (wrong-frequency p w n) =
+      sym (other (setting-either s (t .a)) (λ e. n (frequency-right s (t .a) e)))
+      ∙ frequency-last kinds words setting (taken (k % 16) (k / 16) p) (words-accepted s t w)
 
-  some-row : Numbered (EntryRow k a b c)
-  some-row = go (kind-either s) (words-either (used s) a b c) (setting-either s a)
+  some-row : Numbered (EntryRow t)
+  some-row = go (kind-either s) (words-either (used s) t) (setting-either s (t .a))
     where
-      go : Either 3 kinds → Either 4 words → Either 11 setting → Numbered (EntryRow k a b c)
-      go (inr p) w f = record { number = 3; row = wrong-kind (λ t. let e = sym p ∙ taken (k % 16) (k / 16) t in omega arith) }
-      go (inl p) (inr q) f = record { number = 4; row = wrong-word (takes (k % 16) (k / 16) p) (λ w. let e = sym q ∙ words-accepted s a b c w in omega arith) }
+      go : Either 3 kinds → Either 4 words → Either 11 setting → Numbered (EntryRow t)
+      go (inr p) w f = record { number = 3; row = wrong-kind (λ q. let e = sym p ∙ taken (k % 16) (k / 16) q in omega arith) }
+      go (inl p) (inr q) f = record { number = 4; row = wrong-word (takes (k % 16) (k / 16) p) (λ w. let e = sym q ∙ words-accepted s t w in omega arith) }
       go (inl p) (inl q) (inr f) =
-          record { number = 11; row = wrong-frequency (takes (k % 16) (k / 16) p) (words-right s a b c q) (λ g. let e = sym f ∙ frequency-accepted s a g in omega arith) }
-      go (inl p) (inl q) (inl f) = record { number = 0; row = is-right (takes (k % 16) (k / 16) p) (words-right s a b c q) (frequency-right s a f) }
+          record { number = 11; row = wrong-frequency (takes (k % 16) (k / 16) p) (words-right s t q) (λ g. let e = sym f ∙ frequency-accepted s (t .a) g in omega arith) }
+      go (inl p) (inl q) (inl f) = record { number = 0; row = is-right (takes (k % 16) (k / 16) p) (words-right s t q) (frequency-right s (t .a) f) }
 
-  row-of : EntryRow k a b c (entryRefusal k a b c)
-  row-of = subst (λ (r : ℕ). EntryRow k a b c r) (row-number (some-row .row)) (some-row .row)
+  row-of : EntryRow t (entryRefusal t)
+  row-of = subst (λ (r : ℕ). EntryRow t r) (row-number (some-row .row)) (some-row .row)
 
 -- ---- a sheet
 
@@ -284,10 +288,10 @@ record Wrong (s : List ℕ) (n : ℕ) : Type 0 where
 
 module _ (s : List ℕ) where
   at-number : (e : ℕ) {r : ℕ} → RowAt s e r → r ≡ refusalAt s e
-  at-number e p = row-number (kindAt s e) (wordAt s e 0) (wordAt s e 1) (wordAt s e 2) p
+  at-number e p = row-number (entryIn s e) p
 
   at-row : (e : ℕ) → RowAt s e (refusalAt s e)
-  at-row e = row-of (kindAt s e) (wordAt s e 0) (wordAt s e 1) (wordAt s e 2)
+  at-row e = row-of (entryIn s e)
 
   scan : (n : ℕ) → ((i : ℕ) → i < n → RowAt s i 0) ⊎ Wrong s n
   scan zero = inl (λ i l. absurd (omega arith))

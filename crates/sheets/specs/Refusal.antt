@@ -6,6 +6,7 @@ use Rattle.filter_core.specs.Arithmetic.{word}
 use Rattle.filter_core.specs.Refusal.{frequencyRefusal}
 use Rattle.words.specs.Word.{otherNan}
 use Rattle.sheets.specs.Kind.{setterOf, kindRefusal}
+use Rattle.sheets.specs.declared.entry.Entry.{Entry}
 use Rattle.sheets.specs.declared.setter.Setter.{Setter}
 use Rattle.sheets.specs.declared.setter.Setter.the-variants.{DcBlocker, OnePole, SvfFrequency, SvfCoefficients, NaiveSvf, ModifiedSvf, CrossoverSvf, Unknown}
 
@@ -34,8 +35,8 @@ used Unknown = 0
 abbrev pub wordRefusal : ℕ → ℕ → ℕ → ℕ
 wordRefusal u k w = cond (ltb k u) (cond (otherNan w) 4 0) (cond (eqb w 0) 0 4)
 
-abbrev pub wordsRefusal : ℕ → ℕ → ℕ → ℕ → ℕ
-wordsRefusal u a b c = wordRefusal u 0 a then wordRefusal u 1 b then wordRefusal u 2 c
+abbrev pub wordsRefusal : ℕ → Entry → ℕ
+wordsRefusal u t = wordRefusal u 0 (t .a) then wordRefusal u 1 (t .b) then wordRefusal u 2 (t .c)
 
 -- Exact with f below 0, where a is an f
 abbrev pub settingRefusal : Setter → ℕ → ℕ
@@ -48,10 +49,9 @@ settingRefusal ModifiedSvf a = 0
 settingRefusal CrossoverSvf a = 0
 settingRefusal Unknown a = 0
 
--- 3, then 4, then 11
-abbrev pub refusalOf : Setter → ℕ → ℕ → ℕ → ℕ
-refusalOf s a b c = kindRefusal s then wordsRefusal (used s) a b c then settingRefusal s a
+-- an entry with the setter s: 3, then 4, then 11
+abbrev pub refusalBy : Setter → Entry → ℕ
+refusalBy s t = kindRefusal s then wordsRefusal (used s) t then settingRefusal s (t .a)
 
--- an entry of the kind byte k and the words a, b, c
-abbrev pub entryRefusal : ℕ → ℕ → ℕ → ℕ → ℕ
-entryRefusal k a b c = refusalOf (setterOf k) a b c
+abbrev pub entryRefusal : Entry → ℕ
+entryRefusal t = refusalBy (setterOf (t .kind)) t

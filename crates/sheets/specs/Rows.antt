@@ -11,7 +11,8 @@ use Rattle.filter_core.specs.declared.FrequencyApproximation.the-variants.{Exac
 use Rattle.words.specs.Word.{writtenNan}
 use Rattle.sheets.specs.Kind.{setterOf}
 use Rattle.sheets.specs.Refusal.{used}
-use Rattle.sheets.specs.Sheet.{entriesOf, Sized, kindAt, wordAt, checkOf, checkEntryOf, lookupOf}
+use Rattle.sheets.specs.Sheet.{entriesOf, Sized, entryIn, wordAt, checkOf, checkEntryOf, lookupOf}
+use Rattle.sheets.specs.declared.entry.Entry.{Entry}
 use Rattle.sheets.specs.declared.setter.Setter.{Setter}
 use Rattle.sheets.specs.declared.setter.Setter.the-variants.{OnePole, SvfFrequency, NaiveSvf}
 
@@ -30,10 +31,10 @@ pub record WordRight (u k w : ℕ) : Type 0 where
   pub unused : u ≤ k → w ≡ 0
   pub nan : isNan (word w) ≡ true → w ≡ writtenNan
 
-pub record WordsRight (s : Setter) (a b c : ℕ) : Type 0 where
-  pub word-a : WordRight (used s) 0 a
-  pub word-b : WordRight (used s) 1 b
-  pub word-c : WordRight (used s) 2 c
+pub record WordsRight (s : Setter) (t : Entry) : Type 0 where
+  pub word-a : WordRight (used s) 0 (t .a)
+  pub word-b : WordRight (used s) 1 (t .b)
+  pub word-c : WordRight (used s) 2 (t .c)
 
 -- no f below 0 in Exact
 pub record FrequencyRight (s : Setter) (a : ℕ) : Type 0 where
@@ -41,15 +42,15 @@ pub record FrequencyRight (s : Setter) (a : ℕ) : Type 0 where
   pub svf : s ≡ SvfFrequency Exact → lt (word a) zeroᶠ ≡ false
   pub naive : s ≡ NaiveSvf Exact → lt (word a) zeroᶠ ≡ false
 
--- the number of an entry with the kind byte k and the words a, b, c
-pub data EntryRow (k a b c : ℕ) : ℕ → Type 0 where
-  is-right : KindRight k → WordsRight (setterOf k) a b c → FrequencyRight (setterOf k) a → EntryRow k a b c 0
-  wrong-kind : (KindRight k → ⊥) → EntryRow k a b c 3
-  wrong-word : KindRight k → (WordsRight (setterOf k) a b c → ⊥) → EntryRow k a b c 4
-  wrong-frequency : KindRight k → WordsRight (setterOf k) a b c → (FrequencyRight (setterOf k) a → ⊥) → EntryRow k a b c 11
+-- the number of an entry
+pub data EntryRow (t : Entry) : ℕ → Type 0 where
+  is-right : KindRight (t .kind) → WordsRight (setterOf (t .kind)) t → FrequencyRight (setterOf (t .kind)) (t .a) → EntryRow t 0
+  wrong-kind : (KindRight (t .kind) → ⊥) → EntryRow t 3
+  wrong-word : KindRight (t .kind) → (WordsRight (setterOf (t .kind)) t → ⊥) → EntryRow t 4
+  wrong-frequency : KindRight (t .kind) → WordsRight (setterOf (t .kind)) t → (FrequencyRight (setterOf (t .kind)) (t .a) → ⊥) → EntryRow t 11
 
 abbrev pub RowAt : List ℕ → ℕ → ℕ → Type 0
-RowAt s e r = EntryRow (kindAt s e) (wordAt s e 0) (wordAt s e 1) (wordAt s e 2) r
+RowAt s e r = EntryRow (entryIn s e) r
 
 pub record Sheet (s : List ℕ) : Type 0 where
   pub size : Sized s

@@ -7,6 +7,7 @@ use lib.Dec.{eqb, leb, ltb}
 use lib.ListN.{length, getD, take, drop}
 use Rattle.words.specs.Word.{wordFrom}
 use Rattle.sheets.specs.Refusal.{_then_, firstRefusal, entryRefusal}
+use Rattle.sheets.specs.declared.entry.Entry.{Entry}
 
 abbrev pub entriesOf : List ℕ → ℕ
 entriesOf s = getD s 0 0 + 256 * getD s 1 0
@@ -21,6 +22,14 @@ settingAt s e = take 12 (drop (2 + entriesOf s + 12 * e) s)
 abbrev pub wordAt : List ℕ → ℕ → ℕ → ℕ
 wordAt s e k = wordFrom (settingAt s e) (4 * k)
 
+-- the entry of a kind byte and a setting's bytes
+abbrev pub entryOf : ℕ → List ℕ → Entry
+entryOf k t = record { kind = k; a = wordFrom t 0; b = wordFrom t 4; c = wordFrom t 8 }
+
+-- the entry e of a sheet
+abbrev pub entryIn : List ℕ → ℕ → Entry
+entryIn s e = entryOf (kindAt s e) (settingAt s e)
+
 -- 1 to 64 entries, and the bytes that they take
 pub record Sized (s : List ℕ) : Type 0 where
   pub some : 1 ≤ entriesOf s
@@ -32,7 +41,7 @@ abbrev pub sizeRefusal : ℕ → ℕ → ℕ
 sizeRefusal l n = cond (ltb l 2) 2 (cond (ltb n 1) 2 (cond (ltb 64 n) 2 (cond (eqb l (2 + 13 * n)) 0 2)))
 
 abbrev pub refusalAt : List ℕ → ℕ → ℕ
-refusalAt s e = entryRefusal (kindAt s e) (wordAt s e 0) (wordAt s e 1) (wordAt s e 2)
+refusalAt s e = entryRefusal (entryIn s e)
 
 -- the number that opening a sheet gives: its size, then entry by entry
 abbrev pub checkOf : List ℕ → ℕ

@@ -1,7 +1,10 @@
 // Motif sheets: what a sheet's bytes say, and which number refuses them.
+mod entry;
 mod refusal;
 mod setter;
 
+pub use entry::Entry;
+pub use entry::entry_of;
 pub use refusal::check;
 pub use refusal::check_entry;
 pub use refusal::entries;

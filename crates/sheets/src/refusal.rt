@@ -6,8 +6,10 @@ ghost use lib.ListN.{length};
 ghost use Rattle.filter_core.specs.Arithmetic.{word};
 ghost use Rattle.filter_core.specs.Refusal.{frequencyRefusal};
 ghost use Rattle.sheets.specs.Kind.{kindRefusal};
-ghost use Rattle.sheets.specs.Refusal.{_then_, firstRefusal, used, wordRefusal, wordsRefusal, settingRefusal, refusalOf};
+ghost use Rattle.sheets.specs.Refusal.{_then_, firstRefusal, used, wordRefusal, wordsRefusal, settingRefusal, entryRefusal};
 ghost use Rattle.sheets.specs.Sheet.{entriesOf, Sized, sizeRefusal, refusalAt, checkOf, entryNumberRefusal, checkEntryOf, lookupOf};
+use crate::entry::Entry;
+use crate::entry::entry_of;
 use crate::setter::Setter;
 use crate::setter::setter_of;
 use filter_core::FrequencyApproximation;
@@ -86,21 +88,22 @@ fn setting_refusal(setter: Setter, a: u32) -> u8
     }
 }
 
-fn words_refusal(used: u8, a: u32, b: u32, c: u32) -> u8
-    ensures { λ r. ⌜ r ≡ wordsRefusal used a b c ⌝ }
+fn words_refusal(used: u8, entry: Entry) -> u8
+    ensures { λ r. ⌜ r ≡ wordsRefusal used entry ⌝ }
 {
-    let first = word_refusal(used, 0, a);
-    let second = word_refusal(used, 1, b);
-    let third = word_refusal(used, 2, c);
+    let first = word_refusal(used, 0, entry.a);
+    let second = word_refusal(used, 1, entry.b);
+    let third = word_refusal(used, 2, entry.c);
     then(first, then(second, third))
 }
 
-fn refusal_of(setter: Setter, a: u32, b: u32, c: u32) -> u8
-    ensures { λ r. ⌜ r ≡ refusalOf setter a b c ⌝ }
+fn entry_refusal(entry: Entry) -> u8
+    ensures { λ r. ⌜ r ≡ entryRefusal entry ⌝ }
 {
+    let setter = setter_of(entry.kind);
     let kind = kind_refusal(setter);
-    let words = words_refusal(words_used(setter), a, b, c);
-    let setting = setting_refusal(setter, a);
+    let words = words_refusal(words_used(setter), entry);
+    let setting = setting_refusal(setter, entry.a);
     then(kind, then(words, setting))
 }
 
@@ -137,11 +140,7 @@ fn refusal_at(sheet: &[u8], n: usize, e: usize) -> u8
     ensures { λ r. ⌜ r ≡ refusalAt (now (sheet .entry)) e ⌝ }
 {
     let at = 2 + n + 12 * e;
-    let setting = &sheet[at..at + 12];
-    let a = words::word_at(setting, 0);
-    let b = words::word_at(setting, 4);
-    let c = words::word_at(setting, 8);
-    refusal_of(setter_of(words::byte_at(sheet, 2, e)), a, b, c)
+    entry_refusal(entry_of(words::byte_at(sheet, 2, e), &sheet[at..at + 12]))
 }
 
 fn entries_refusal(sheet: &[u8], n: usize) -> u8

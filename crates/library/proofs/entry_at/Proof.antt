@@ -6,16 +6,12 @@ pub entry-at-spec : {M : Type 1} → statement M
 entry-at-spec =
     tie.close
     (tie.spec
-    (λ c κs. search entries)
     (λ c. search entries)
     (λ c. search entries)
     (λ c. search entries)
     (λ c. search entries)
     (λ c. search entries)
     (λ c. search entries)
-    (λ c κs. search entries)
-    (λ c κs. search entries)
-    (λ c κs. search entries)
     (λ c. search entries)
     (λ c κs. search entries)
     (λ c. search entries))

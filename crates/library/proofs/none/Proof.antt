@@ -1,10 +1,10 @@
 use mathlib.Core.Path.{refl}
-use Rattle.library.specs.Library.{zeros}
+use Rattle.library.specs.Library.{zeroBytes}
 use Rattle.library.proofs.none.Statement.{statement}
 use Rattle.library.proofs.none.Tie as tie
 
 returns : tie.Need-returns
-unfolding zeros
+unfolding zeroBytes
 returns c = refl
 
 pub none-spec : {M : Type 1} → statement M

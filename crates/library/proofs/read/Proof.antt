@@ -1,5 +1,5 @@
 use native.Mathlib.Omega.{arith}
-use Rattle.library.specs.Library.{zeros}
+use Rattle.library.specs.Library.{zeroBytes}
 use Rattle.library.proofs.Readings.{accepted, readings}
 use Rattle.library.proofs.read.Statement.{statement}
 use Rattle.library.proofs.read.Tie as tie
@@ -17,7 +17,7 @@ part-copy-start-2 : tie.Need-part-copy-start-2
 part-copy-start-2 c = let a = accepted (c .before .before .before .before .before .before .before .before .args .sheet .now) (c .before .before .before .before .before .before .check .ensures) (c .before .before .before .before .entries .result) (c .before .before .before .before .before .if1 .left) (c .before .before .before .before .entries .ensures) in omega arith
 
 returns-2 : tie.Need-returns-2
-unfolding zeros
+unfolding zeroBytes
 returns-2 c = search readings
 
 pub read-spec : {M : Type 1} → statement M

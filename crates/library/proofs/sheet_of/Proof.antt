@@ -1,6 +1,6 @@
 use native.Mathlib.Omega.{arith}
-use Rattle.library.specs.Library.{zeros}
-use Rattle.library.proofs.Writings.{put-together, writings}
+use Rattle.library.specs.Library.{zeroBytes}
+use Rattle.library.proofs.Writings.{writings}
 use Rattle.library.proofs.sheet_of.Statement.{statement}
 use Rattle.library.proofs.sheet_of.Tie as tie
 
@@ -8,11 +8,8 @@ returns : tie.Need-returns
 returns c = λ h. absurd (omega arith)
 
 returns-2 : tie.Need-returns-2
-unfolding zeros
-returns-2 c =
-    λ h.
-    put-together (c .before .before .before .before .before .before .before .before .before .before .before .before .before .args .library) (zeros 834) (search writings) h (c .before .before .before .before .before .before .before .before .before .before .before .low-byte .ensures) (c .before .before .before .before .before .before .before .before .before .before .low-byte2 .ensures)
-    (c .before .before .before .before .before .before .copy .ensures) (c .before .copy2 .ensures)
+unfolding zeroBytes
+returns-2 c = λ h. search writings
 
 pub sheet-of-spec : {M : Type 1} → statement M
 sheet-of-spec =
@@ -20,9 +17,10 @@ sheet-of-spec =
     (tie.spec
     returns
     (λ c κs. search writings)
-    (λ c. search writings)
     (λ c κs. search writings)
     (λ c. search writings)
+    (λ c. search writings)
+    (λ c κs. search writings)
     (λ c. search writings)
     (λ c. search writings)
     (λ c. search writings)

@@ -1,7 +1,7 @@
 use Prim.Native.Nat.{_-_}
-use Rattle.library.proofs.Copies.{Copied, copying}
-use Rattle.library.proofs.copy.Statement.{statement}
-use Rattle.library.proofs.copy.Tie as tie
+use Rattle.words.proofs.Copies.{Copied, copying}
+use Rattle.words.proofs.over.copy.Statement.{statement}
+use Rattle.words.proofs.over.copy.Tie as tie
 
 abbrev Inv-loop : tie.InvT-loop
 Inv-loop source output₀ at n i₀ output i = Copied at source output₀ n i output
@@ -15,6 +15,7 @@ copy-spec =
     (tie.spec
     Inv-loop
     μ-loop
+    (λ c. search copying)
     (λ c. search copying)
     (λ c κs. search copying)
     (λ c. search copying)

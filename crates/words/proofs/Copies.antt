@@ -1,0 +1,105 @@
+-- One list written over another, and the loop that does it. Assumes nothing.
+use Prim.Native.Nat.{ℕ, zero, suc, _+_, _-_, _≤_, _<_}
+use mathlib.Core.Path.{_≡_, refl, sym, ap, _∙_}
+use mathlib.Core.Bool.{Bool, true, false}
+use mathlib.Core.List.{List, [], _∷_, _++_, append-assoc, append-nil}
+use native.Mathlib.Nat.{add-zero, zero-add, add-assoc}
+use native.Mathlib.Numerals.{add-one}
+use native.Mathlib.Omega.{arith}
+use borrow.Author.Needs.{needs}
+use borrow.Author.Tests.{leb-true, leb-false}
+use lib.Dec.{leb}
+use lib.ListN.{length, getD, set, take, drop, length-set, length-append}
+use lib.Seq.{paste, paste-zero, paste-suc, length-paste, take-paste, drop-paste, take-append-add, take-append-le, take-all, take-length, drop-drop, length-take-le}
+use Rattle.words.specs.Over.{room, over}
+
+module _ {A : Type 0} where
+  -- where nothing has room, nothing is written
+  over-nothing : (at : ℕ) (xs ys : List A) → room at xs ys ≡ 0 → over at xs ys ≡ ys
+  unfolding over
+  over-nothing at xs ys e = rw e (sym (paste-zero ys at xs))
+
+  pub over-none : (at : ℕ) (ys : List A) → over at [] ys ≡ ys
+  over-none at ys = over-nothing at [] ys (omega arith)
+
+  pub over-past : (at : ℕ) (xs ys : List A) → length ys ≤ at → over at xs ys ≡ ys
+  over-past at xs ys h = over-nothing at xs ys (omega arith)
+
+  length-inside : (at : ℕ) (xs ys : List A) → at ≤ length ys → length (over at xs ys) ≡ length ys
+  unfolding over
+  length-inside at xs ys h = length-paste ys at xs (room at xs ys) (omega arith) (omega arith)
+
+  pub length-over : (at : ℕ) (xs ys : List A) → length (over at xs ys) ≡ length ys
+  length-over at xs ys = go (leb at (length ys)) refl
+    where
+      go : (b : Bool) → leb at (length ys) ≡ b → length (over at xs ys) ≡ length ys
+      go true q = length-inside at xs ys (leb-true at (length ys) q)
+      go false q = ap length (over-past at xs ys (omega (arith, leb-false at (length ys) q)))
+
+  -- all of it, where it has room
+  pub over-all : (xs ys : List A) → length xs ≤ length ys → over 0 xs ys ≡ xs ++ drop (length xs) ys
+  unfolding over
+  over-all xs ys h =
+      let w : room 0 xs ys ≡ length xs = omega arith in
+      rw (w, zero-add (length xs), take-length xs) refl
+
+  -- the front of what was written
+  pub over-front : (k : ℕ) (xs ys : List A) → k ≤ length xs → length xs ≤ length ys → take k (over 0 xs ys) ≡ take k xs
+  over-front k xs ys h l = rw (over-all xs ys l) (take-append-le k xs (drop (length xs) ys) h)
+
+  -- ---- one after the other is both at once
+
+  paste-paste : (xs ws ys : List A) (at n m : ℕ) → at ≤ length ys → n ≤ length xs → take (n + m) (xs ++ ws) ≡ take n xs ++ take m ws
+      → paste (paste ys at xs n) (at + n) ws m ≡ paste ys at (xs ++ ws) (n + m)
+  paste-paste xs ws ys at n m l h e =
+      ap (λ (z : List A). z ++ take m ws ++ drop (at + n + m) (paste ys at xs n)) (take-paste ys at xs n l h)
+      ∙ ap (λ (z : List A). take at ys ++ take n xs ++ take m ws ++ z)
+      (sym (drop-drop m (at + n) (paste ys at xs n)) ∙ ap (λ (z : List A). drop m z) (drop-paste ys at xs n l h) ∙ drop-drop m (at + n) ys)
+      ∙ ap (λ (z : List A). z ++ drop (at + n + m) ys) (append-assoc (take at ys) (take n xs) (take m ws) ∙ ap (λ (z : List A). take at ys ++ z) (sym e))
+      ∙ ap (λ (k : ℕ). take at ys ++ take (n + m) (xs ++ ws) ++ drop k ys) (add-assoc at n m)
+
+  room-append : (at : ℕ) (xs ws ys : List A) → at + length xs ≤ length ys → room at (xs ++ ws) ys ≡ length xs + room (at + length xs) ws ys
+  room-append at xs ws ys h = rw (length-append xs ws) (omega arith)
+
+  pub over-append : (at : ℕ) (xs ws ys : List A) → at + length xs ≤ length ys → over (at + length xs) ws (over at xs ys) ≡ over at (xs ++ ws) ys
+  unfolding over
+  over-append at xs ws ys h =
+      let n = length xs in
+      let a : room at xs ys ≡ n = omega arith in
+      let b : room (at + n) ws (paste ys at xs n) ≡ room (at + n) ws ys = rw (length-paste ys at xs n h (omega arith)) refl in
+      let m = room (at + n) ws ys in
+      let c = room-append at xs ws ys h in
+      let t : take (n + m) (xs ++ ws) ≡ take n xs ++ take m ws = take-append-add xs ws m ∙ rw (take-length xs) refl in
+      rw (a, b, c) (paste-paste xs ws ys at n m (omega arith) (omega arith) t)
+
+-- ---- the loop: i places are written
+
+module _ {A : Type 0} where
+  pub record Copied (at : ℕ) (xs ys : List A) (n i : ℕ) (zs : List A) : Type 0 where
+    pub inside : i ≤ n
+    pub source : n ≤ length xs
+    pub places : at + n ≤ length ys
+    pub long : length zs ≡ length ys
+    is : zs ≡ paste ys at xs i
+
+  pub copy-start : (at : ℕ) (xs ys : List A) (n : ℕ) → at < length ys → n ≡ room at xs ys → Copied at xs ys n 0 ys
+  copy-start at xs ys n l e = record { inside = omega arith; source = omega arith; places = omega arith; long = refl; is = paste-zero ys at xs }
+
+  pub copy-again : {at : ℕ} {xs ys : List A} {n i : ℕ} {zs : List A} (d : A) → Copied at xs ys n i zs → i < n → Copied at xs ys n (i + 1) (set zs (at + i) (getD xs i d))
+  copy-again {at} {xs} {ys} {n} {i} {zs} d c h =
+      record {
+        inside = omega arith;
+        source = c .source;
+        places = c .places;
+        long = length-set zs (at + i) (getD xs i d) ∙ c .long;
+        is = rw (c .is, add-one) (paste-suc ys at xs i d (omega (arith, c .places)) (omega (arith, c .source)));
+      }
+
+  pub copy-done : {at : ℕ} {xs ys : List A} {n i : ℕ} {zs : List A} → Copied at xs ys n i zs → n ≤ i → n ≡ room at xs ys → zs ≡ over at xs ys
+  unfolding over
+  copy-done {at} {xs} {ys} {n} {i} {zs} c h e = let w : i ≡ room at xs ys = omega (arith, c .inside) in rw (← w) (c .is)
+
+  pub copy-none : (at : ℕ) (xs ys : List A) → length ys ≤ at → ys ≡ over at xs ys
+  copy-none at xs ys h = sym (over-past at xs ys h)
+
+pub ruleset copying = (copy-start, copy-again, copy-done, copy-none, needs)

@@ -1,0 +1,19 @@
+// Bytes written over others.
+
+ghost use mathlib.Core.Path.{_≡_};
+ghost use Rattle.words.specs.Over.{over};
+
+// The source into the output from the place `at` on. What has no room is left out, so a place past the end takes nothing.
+pub fn copy(source: &[u8], output: &mut [u8], at: usize)
+    ensures { λ _. ⌜ now (output .exit) ≡ over at (now (source .entry)) (now (output .entry)) ⌝ }
+{
+    if output.len() <= at {
+        return;
+    }
+    let n = filter_core::shortest(source.len(), output.len() - at);
+    let mut i = 0;
+    while i < n {
+        output[at + i] = source[i];
+        i += 1;
+    }
+}
