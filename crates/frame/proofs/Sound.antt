@@ -1,5 +1,5 @@
--- What holds of every history that calls make: the filter of a history is of the kind that the history names, and no head has more than
--- four checkpoints. Assumes nothing.
+-- What holds of every history that calls make: the filter that it leads to is of the type that it names, and no head has more than four
+-- checkpoints. Assumes nothing.
 use Prim.Native.Nat.{ℕ, zero, suc, _+_, _≤_, _<_}
 use mathlib.Core.Path.{_≡_, refl, ap, sym, _∙_}
 use mathlib.Core.Bool.{Bool, true, false, cond}
@@ -10,71 +10,76 @@ use lib.ListN.{length, getD, take, length-append, length-take}
 use lib.Dec.{eqb, ltb}
 use lib.Ieee.{Float}
 use Rattle.filter_core.specs.Buffer.{within}
-use Rattle.sheets.specs.Sheet.{entriesOf, kindAt, wordAt, checkOf}
+use Rattle.sheets.specs.Sheet.{entriesOf, entryIn, checkOf}
+use Rattle.sheets.specs.declared.entry.Entry.{Entry}
 use Rattle.sheets.proofs.Rows.{check-sheet}
 use Rattle.library.specs.Library.{libraryOf, entryAt, writeOf}
-use Rattle.library.specs.Entry.{entryOf}
 use Rattle.library.proofs.RoundTrip.{same-entries}
-use Rattle.runs.specs.Kind.{Kind, dc, kindOf, rested}
+use Rattle.any_filter.specs.Cases.{typeOf, rested}
+use Rattle.any_filter.specs.declared.FilterType.{FilterType}
+use Rattle.any_filter.specs.declared.FilterType.the-variants as type
+use Rattle.any_filter.specs.declared.Filter.{Filter}
+use Rattle.any_filter.specs.declared.Filter.the-variants.{Dc, OnePole, Svf, Naive, Modified, Crossover}
 use Rattle.runs.specs.Run.{through}
-use Rattle.runs.specs.declared.Filter.{Filter}
-use Rattle.runs.specs.declared.Filter.the-variants.{Dc, OnePole, Svf, Naive, Modified, Crossover}
 use Rattle.runs.specs.declared.RunForm.{RunForm}
-use Rattle.loads.specs.Load.{kindNamed, loaded}
-use Rattle.loads.proofs.KindBytes.{kind-loaded}
-use Rattle.frame.specs.History.{Act, load, run, runTwo, rest, mark, back, drop, Call, opening, writing, at, Event, loadEvent, runEvent, restEvent, HeadHistory, Histories, noHistories, Sort, bare, of-kind, kindWith, kindFrom, sortOf, unlessBare, actNumber, callNumber, adding, grownBy, changedAt, grown, advance, slotWith, slotFrom, slotOf}
+use Rattle.loads.specs.Load.{filterOf}
+use Rattle.frame.specs.Call.{Act, load, run, runTwo, rest, mark, back, drop, Call, opening, writing, at}
+use Rattle.frame.specs.History.{Event, loadEvent, runEvent, restEvent, HeadHistory, Histories, noHistories, typeWith, typeFrom, lastType, unlessBare, actNumber, callNumber, adding, grownBy, changedAt, grown, advance, advanceAll, slotWith, snapshotWith, snapshotFrom, snapshotOf}
 use Rattle.frame.specs.declared.Slot.{Slot}
 use Rattle.frame.specs.declared.Slot.the-variants.{Empty, Holds}
+use Rattle.frame.specs.declared.Snapshot.{Snapshot}
 
 -- ---- histories with one event more
 
-pub slot-snoc : (s : Slot) (l : List Event) (i : Event) → slotFrom s (l ++ i ∷ []) ≡ slotWith (slotFrom s l) i
-unfolding slotFrom
-slot-snoc s [] i = refl
-slot-snoc s (j ∷ l) i = slot-snoc (slotWith s j) l i
+pub snapshot-snoc : (s : Snapshot) (l : List Event) (i : Event) → snapshotFrom s (l ++ i ∷ []) ≡ snapshotWith (snapshotFrom s l) i
+unfolding snapshotFrom
+snapshot-snoc s [] i = refl
+snapshot-snoc s (j ∷ l) i = snapshot-snoc (snapshotWith s j) l i
 
-kind-snoc : (k : Kind) (l : List Event) (i : Event) → kindFrom k (l ++ i ∷ []) ≡ kindWith (kindFrom k l) i
-unfolding kindFrom
-kind-snoc k [] i = refl
-kind-snoc k (j ∷ l) i = kind-snoc (kindWith k j) l i
+type-snoc : (k : FilterType) (l : List Event) (i : Event) → typeFrom k (l ++ i ∷ []) ≡ typeWith (typeFrom k l) i
+unfolding typeFrom
+type-snoc k [] i = refl
+type-snoc k (j ∷ l) i = type-snoc (typeWith k j) l i
 
--- ---- filters keep their kind
+-- ---- filters keep their type
 
-kind-through : (f : Filter) (form : RunForm) (us : List Float) → kindOf (through f form us) ≡ kindOf f
+type-through : (f : Filter) (form : RunForm) (us : List Float) → typeOf (through f form us) ≡ typeOf f
 unfolding through
-kind-through (Dc pole x y) form us = refl
-kind-through (OnePole g gi state) form us = refl
-kind-through (Svf g r h s t) form us = refl
-kind-through (Naive f damp lp bp) form us = refl
-kind-through (Modified f fq x lp bp) form us = refl
-kind-through (Crossover f fq x₀ x₁ lp₀ lp₁ bp₀ bp₁) form us = refl
+type-through (Dc pole x y) form us = refl
+type-through (OnePole g gi state) form us = refl
+type-through (Svf g r h s t) form us = refl
+type-through (Naive f damp lp bp) form us = refl
+type-through (Modified f fq x lp bp) form us = refl
+type-through (Crossover f fq x₀ x₁ lp₀ lp₁ bp₀ bp₁) form us = refl
 
-kind-rested : (f : Filter) → kindOf (rested f) ≡ kindOf f
+type-rested : (f : Filter) → typeOf (rested f) ≡ typeOf f
 unfolding rested
-kind-rested (Dc pole x y) = refl
-kind-rested (OnePole g gi state) = refl
-kind-rested (Svf g r h s t) = refl
-kind-rested (Naive f damp lp bp) = refl
-kind-rested (Modified f fq x lp bp) = refl
-kind-rested (Crossover f fq x₀ x₁ lp₀ lp₁ bp₀ bp₁) = refl
+type-rested (Dc pole x y) = refl
+type-rested (OnePole g gi state) = refl
+type-rested (Svf g r h s t) = refl
+type-rested (Naive f damp lp bp) = refl
+type-rested (Modified f fq x lp bp) = refl
+type-rested (Crossover f fq x₀ x₁ lp₀ lp₁ bp₀ bp₁) = refl
 
 -- ---- what is sound
 
-abbrev pub sortIn : Slot → Sort
-sortIn Empty = bare
-sortIn (Holds f) = of-kind (kindOf f)
+-- a slot that is empty when the history is, and else holds a filter of the history's type
+pub data Fits : List Event → Slot → Type 0 where
+  bare : Fits [] Empty
+  held : {i : Event} {l : List Event} {f : Filter} → typeOf f ≡ lastType (i ∷ l) → Fits (i ∷ l) (Holds f)
 
 abbrev pub Good : List Event → Type 0
-Good l = sortIn (slotOf l) ≡ sortOf l
+Good l = Fits l (snapshotOf l .slot)
 
 pub record SoundHead (x : HeadHistory) : Type 0 where
   pub good : Good (x .history)
   pub goods : (m : ℕ) → Good (getD (x .checkpoints) m [])
   pub four : length (x .checkpoints) ≤ 4
 
--- the entries of the sheet's library are those of the sheet
-abbrev pub SoundSheet : List ℕ → Type 0
-SoundSheet s = (e : ℕ) → e < entriesOf s → entryAt (libraryOf s) e ≡ entryOf (kindAt s e) (wordAt s e 0) (wordAt s e 1) (wordAt s e 2)
+-- the entries of the sheet's library are those of the sheet, and 64 at most
+pub record SoundSheet (s : List ℕ) : Type 0 where
+  pub most : entriesOf s ≤ 64
+  pub entry : (e : ℕ) → e < entriesOf s → entryAt (libraryOf s) e ≡ entryIn s e
 
 pub record Sound (H : Histories) : Type 0 where
   pub sheet : SoundSheet (H .sheet)
@@ -82,81 +87,66 @@ pub record Sound (H : Histories) : Type 0 where
 
 -- ---- a history stays good
 
-sort-load : (l : List Event) (b u v w : ℕ) → of-kind (kindNamed b) ≡ sortOf (l ++ loadEvent b u v w ∷ [])
-unfolding kindFrom
-sort-load [] b u v w = refl
-sort-load (i ∷ l) b u v w = sym (ap of-kind (kind-snoc dc (i ∷ l) (loadEvent b u v w)))
+nothing : Good []
+unfolding snapshotFrom
+nothing = bare
 
-good-load : (l : List Event) (b u v w : ℕ) → Good (l ++ loadEvent b u v w ∷ [])
-good-load l b u v w = rw (slot-snoc, kind-loaded b u v w) (sort-load l b u v w)
+good-load : (l : List Event) (e : Entry) → Good (l ++ loadEvent e ∷ [])
+unfolding typeFrom
+good-load [] e = rw snapshot-snoc (held refl)
+good-load (j ∷ l) e = rw snapshot-snoc (held (sym (type-snoc type.DcBlocker (j ∷ l) (loadEvent e))))
 
--- an event that names no kind keeps the kind of a history that has one
-module _ (i : Event) (names-none : (k : Kind) → kindWith k i ≡ k) (keeps : (f : Filter) → sortIn (slotWith (Holds f) i) ≡ of-kind (kindOf f)) where
-  sort-same : (l : List Event) (k : Kind) → sortOf l ≡ of-kind k → sortOf (l ++ i ∷ []) ≡ of-kind k
-  unfolding kindFrom
-  sort-same [] k e = let z : _≡_ {A = ℕ} 0 1 = cc in absurd (omega arith)
-  sort-same (j ∷ l) k e = ap of-kind (kind-snoc dc (j ∷ l) i ∙ names-none (kindFrom dc (j ∷ l))) ∙ e
+-- an event that names no type, on a history that is not empty
+module _ (i : Event) (names-none : (k : FilterType) → typeWith k i ≡ k)
+    (step : Filter → Filter) (moves : (f : Filter) → slotWith (Holds f) i ≡ Holds (step f)) (keeps : (f : Filter) → typeOf (step f) ≡ typeOf f) where
+  fits-same : (j : Event) (l : List Event) (σ : Slot) → Fits (j ∷ l) σ → Fits (j ∷ l ++ i ∷ []) (slotWith σ i)
+  fits-same j l (Holds f) (held e) =
+      rw (moves f) (held (keeps f ∙ e ∙ sym (type-snoc type.DcBlocker (j ∷ l) i ∙ names-none (lastType (j ∷ l)))))
 
-  slot-same : (s : Slot) (l : List Event) (k : Kind) → sortIn s ≡ of-kind k → sortIn s ≡ sortOf l → sortIn (slotWith s i) ≡ sortOf (l ++ i ∷ [])
-  slot-same Empty l k e g = let z : _≡_ {A = ℕ} 0 1 = cc in absurd (omega arith)
-  slot-same (Holds f) l k e g = keeps f ∙ sym (sort-same l (kindOf f) (sym g))
+  good-same : (l : List Event) (n : ℕ) → unlessBare l n ≡ 0 → Good l → Good (l ++ i ∷ [])
+  good-same [] n q g = absurd (omega arith)
+  good-same (j ∷ l) n q g = rw snapshot-snoc (fits-same j l (snapshotOf (j ∷ l) .slot) g)
 
-  good-same : (l : List Event) (k : Kind) → sortOf l ≡ of-kind k → Good l → Good (l ++ i ∷ [])
-  good-same l k e g = rw slot-snoc (slot-same (slotOf l) l k (g ∙ e) g)
+good-run : (l : List Event) (form : RunForm) (us : List Float) (n : ℕ) → unlessBare l n ≡ 0 → Good l → Good (l ++ runEvent form us ∷ [])
+good-run l form us n q g = good-same (runEvent form us) (λ k. refl) (λ f. through f form us) (λ f. refl) (λ f. type-through f form us) l n q g
 
-good-run : (l : List Event) (form : RunForm) (us : List Float) (k : Kind) → sortOf l ≡ of-kind k → Good l → Good (l ++ runEvent form us ∷ [])
-good-run l form us k e g = good-same (runEvent form us) (λ j. refl) (λ f. ap of-kind (kind-through f form us)) l k e g
+good-rest : (l : List Event) (n : ℕ) → unlessBare l n ≡ 0 → Good l → Good (l ++ restEvent ∷ [])
+good-rest l n q g = good-same restEvent (λ k. refl) rested (λ f. refl) type-rested l n q g
 
 goods-snoc : (r : List (List Event)) (l : List Event) → ((m : ℕ) → Good (getD r m [])) → Good l → (m : ℕ) → Good (getD (r ++ l ∷ []) m [])
-unfolding slotFrom
 goods-snoc [] l g e zero = e
-goods-snoc [] l g e (suc m) = refl
+goods-snoc [] l g e (suc m) = nothing
 goods-snoc (x ∷ r) l g e zero = g 0
 goods-snoc (x ∷ r) l g e (suc m) = goods-snoc r l (λ i. g (suc i)) e m
 
 goods-take : (n : ℕ) (r : List (List Event)) → ((m : ℕ) → Good (getD r m [])) → (m : ℕ) → Good (getD (take n r) m [])
-unfolding slotFrom
-goods-take zero r g m = refl
-goods-take (suc n) [] g m = refl
+goods-take zero r g m = nothing
+goods-take (suc n) [] g m = nothing
 goods-take (suc n) (x ∷ r) g zero = g 0
 goods-take (suc n) (x ∷ r) g (suc m) = goods-take n r (λ i. g (suc i)) m
 
 -- ---- an accepted call keeps its head sound
 
--- a call that asks for a filter is accepted only where the history has a kind
-kinded : (σ : Sort) (n : Kind → ℕ) → unlessBare σ n ≡ 0 → (k : Kind) × (σ ≡ of-kind k) × (n k ≡ 0)
-kinded bare n e = absurd (omega arith)
-kinded (of-kind k) n e = (k, refl, e)
-
-below-four : (n : ℕ) → cond {A = ℕ} (ltb 3 n) 8 0 ≡ 0 → n ≤ 3
-below-four n e = go (ltb 3 n) refl e
+-- a mark is accepted only below four
+below-four : (l : List Event) (n : ℕ) → unlessBare l (cond (ltb 3 n) 8 0) ≡ 0 → n ≤ 3
+below-four [] n e = absurd (omega arith)
+below-four (i ∷ l) n e = go (ltb 3 n) refl e
   where
     go : (b : Bool) → ltb 3 n ≡ b → cond {A = ℕ} b 8 0 ≡ 0 → n ≤ 3
     go true q e = absurd (omega arith)
     go false q e = ltb-false 3 n q
 
 sound-grown : (s : List ℕ) (x : HeadHistory) (a : Act) → SoundHead x → actNumber s x a ≡ 0 → SoundHead (grownBy s x a)
-sound-grown s x (load e) S q =
-    record { good = good-load (x .history) (kindAt s e) (wordAt s e 0) (wordAt s e 1) (wordAt s e 2); goods = S .goods; four = S .four }
-sound-grown s x (run form us ys) S q =
-    let w = kinded (sortOf (x .history)) _ q in
-    record { good = good-run (x .history) form (within us ys) (w .0) (w .1) (S .good); goods = S .goods; four = S .four }
+sound-grown s x (load e) S q = record { good = good-load (x .history) (entryIn s e); goods = S .goods; four = S .four }
+sound-grown s x (run form us ys) S q = record { good = good-run (x .history) form (within us ys) _ q (S .good); goods = S .goods; four = S .four }
 sound-grown s x (runTwo form us ys zs) S q =
-    let w = kinded (sortOf (x .history)) _ q in
-    record { good = good-run (x .history) form (within (within us ys) zs) (w .0) (w .1) (S .good); goods = S .goods; four = S .four }
-sound-grown s x rest S q =
-    let w = kinded (sortOf (x .history)) _ q in
-    record {
-      good = good-same restEvent (λ j. refl) (λ f. ap of-kind (kind-rested f)) (x .history) (w .0) (w .1) (S .good);
-      goods = S .goods;
-      four = S .four;
-    }
+    record { good = good-run (x .history) form (within (within us ys) zs) _ q (S .good); goods = S .goods; four = S .four }
+sound-grown s x rest S q = record { good = good-rest (x .history) _ q (S .good); goods = S .goods; four = S .four }
 sound-grown s x mark S q =
-    let w = kinded (sortOf (x .history)) _ q in
     record {
       good = S .good;
       goods = goods-snoc (x .checkpoints) (x .history) (S .goods) (S .good);
-      four = omega (arith, length-append (x .checkpoints) (x .history ∷ []), below-four (length (x .checkpoints)) (w .2));
+      four = omega (arith, length-append (x .checkpoints) (x .history ∷ []), below-four (x .history) (length (x .checkpoints)) q);
     }
 sound-grown s x (back m) S q =
     record { good = S .goods m; goods = goods-take (m + 1) (x .checkpoints) (S .goods); four = omega (arith, length-take (m + 1) (x .checkpoints), S .four) }
@@ -166,37 +156,38 @@ sound-grown s x (drop m) S q =
 -- ---- and each call the histories
 
 sound-open : (s : List ℕ) → checkOf s ≡ 0 → SoundSheet s
-sound-open s e = same-entries s (check-sheet s e) .entry
+sound-open s e = let t = same-entries s (check-sheet s e) in record { most = t .most; entry = t .entry }
 
 either : (b : Bool) (x y : HeadHistory) → SoundHead x → SoundHead y → SoundHead (cond b x y)
 either true x y S R = S
 either false x y S R = R
 
+sound-accepted : (H : Histories) (c : Call) → Sound H → callNumber H c ≡ 0 → Sound (grown H c)
+unfolding callNumber
+sound-accepted H (opening s) S q = record { sheet = sound-open s q; each = S .each }
+sound-accepted H (writing out) S q = S
+sound-accepted H (at h a) S q = go (ltb 11 h) refl q
+  where
+    go : (b : Bool) → ltb 11 h ≡ b → cond b 1 (actNumber (H .sheet) (H .heads h) a) ≡ 0 → Sound (grown H (at h a))
+    go true e q = absurd (omega arith)
+    go false e q = record { sheet = S .sheet; each = λ j. either (eqb j h) _ _ (sound-grown (H .sheet) (H .heads h) a (S .each h) q) (S .each j) }
+
 pub sound-advance : (H : Histories) (c : Call) → Sound H → Sound (advance H c)
-unfolding advance callNumber
-sound-advance H (opening s) S = go (eqb (checkOf s) 0) refl
+unfolding advance
+sound-advance H c S = go (eqb (callNumber H c) 0) refl
   where
-    go : (b : Bool) → eqb (checkOf s) 0 ≡ b → Sound (cond (eqb (checkOf s) 0) (grown H (opening s)) H)
-    go true q = rw q (record { sheet = sound-open s (eqb-true _ _ q); each = S .each })
-    go false q = rw q S
-sound-advance H (writing out) S = go (eqb (writeOf (libraryOf (H .sheet)) out .number) 0)
-  where
-    go : (b : Bool) → Sound (cond b H H)
-    go true = S
-    go false = S
-sound-advance H (at h a) S = go (ltb 11 h) (eqb (actNumber (H .sheet) (H .heads h) a) 0) refl refl
-  where
-    go : (b k : Bool) → ltb 11 h ≡ b → eqb (actNumber (H .sheet) (H .heads h) a) 0 ≡ k
-        → Sound (cond (eqb (cond (ltb 11 h) 1 (actNumber (H .sheet) (H .heads h) a)) 0) (grown H (at h a)) H)
-    go true k q e = rw q S
-    go false false q e = rw (q, e) S
-    go false true q e =
-        rw (q, e)
-        (record {
-          sheet = S .sheet;
-          each = λ j. either (eqb j h) _ _ (sound-grown (H .sheet) (H .heads h) a (S .each h) (eqb-true _ _ e)) (S .each j);
-        })
+    go : (b : Bool) → eqb (callNumber H c) 0 ≡ b → Sound (cond b (grown H c) H)
+    go true q = sound-accepted H c S (eqb-true _ _ q)
+    go false q = S
+
+pub sound-all : (H : Histories) (cs : List Call) → Sound H → Sound (advanceAll H cs)
+unfolding advanceAll
+sound-all H [] S = S
+sound-all H (c ∷ cs) S = sound-all (advance H c) cs (sound-advance H c S)
 
 pub sound-none : Sound noHistories
-unfolding slotFrom
-sound-none = record { sheet = λ e l. absurd (omega arith); each = λ h. record { good = refl; goods = λ m. refl; four = omega arith } }
+sound-none =
+    record {
+      sheet = record { most = omega arith; entry = λ e l. absurd (omega arith) };
+      each = λ h. record { good = nothing; goods = λ m. nothing; four = omega arith };
+    }

@@ -3,14 +3,16 @@ use Prim.Native.Nat.{ℕ}
 use mathlib.Core.Path.{_≡_, refl, ap, sym, _∙_}
 use mathlib.Core.List.{List, [], _∷_}
 use native.Mathlib.Omega.{arith}
-use Rattle.library.specs.Library.{over}
+use Rattle.library.proofs.RoundTrip.{no-sheet}
 use Rattle.frame.specs.Table.{table}
 use Rattle.frame.specs.Calls.{noHead, freshFrame}
-use Rattle.frame.specs.History.{Call, Event, Histories, noHistories, Sort, bare, sortOf, advance, advanceAll, slotFrom, slotOf, Reply, replyTo, repliesTo}
-use Rattle.frame.specs.Demand.{perform, repliesFrom, frameAfter, snapshotOf, Upheld, Demand3}
-use Rattle.frame.specs.declared.Slot.the-variants.{Empty}
+use Rattle.frame.specs.Call.{Call, Reply}
+use Rattle.frame.specs.History.{Event, Histories, noHistories, advance, advanceAll, snapshotFrom, snapshotOf, replyTo, repliesTo}
+use Rattle.frame.specs.Demand.{repliesFrom, frameAfter, Upheld, Demand3}
+use Rattle.frame.specs.declared.Slot.{Slot}
+use Rattle.frame.specs.declared.Slot.the-variants.{Empty, Holds}
 use Rattle.frame.proofs.Tables.{getD-table, take-table}
-use Rattle.frame.proofs.Sound.{sortIn, Good, Sound, sound-advance, sound-none}
+use Rattle.frame.proofs.Sound.{Fits, bare, held, Good, Sound, sound-advance, sound-none}
 use Rattle.frame.proofs.Picture.{headFor, frameFor, follows}
 
 record Followed (H : Histories) (cs : List Call) : Type 0 where
@@ -29,20 +31,20 @@ followed H (c ∷ cs) S =
       sound = r .sound;
     }
 
--- a good history whose filter is none is empty
-no-events : (l : List Event) → Good l → slotOf l ≡ Empty → l ≡ []
-no-events [] g e = refl
-no-events (i ∷ l) g e = let b : sortOf (i ∷ l) ≡ bare = sym g ∙ ap sortIn e in let z : _≡_ {A = ℕ} 0 1 = cc in absurd (omega arith)
+-- a good history whose slot is empty is empty
+no-events : (l : List Event) (σ : Slot) → Fits l σ → σ ≡ Empty → l ≡ []
+no-events [] Empty bare e = refl
+no-events (i ∷ l) (Holds f) (held q) e = let z : _≡_ {A = ℕ} 0 1 = cc in absurd (omega arith)
 
 pub upheld : (H : Histories) (cs : List Call) → Sound H → Upheld (frameFor H) H cs
-unfolding slotFrom
+unfolding snapshotFrom
 upheld H cs S =
     let r = followed H cs S in
     record {
       replies = r .replies;
       heads = λ h l. rw (r .frame, getD-table 12 (λ j. headFor (advanceAll H cs .heads j)) h noHead l);
       empty =
-          λ h l e. no-events (advanceAll H cs .heads h .history) (r .sound .each h .good)
+          λ h l e. no-events (advanceAll H cs .heads h .history) _ (r .sound .each h .good)
           (rw (r .frame, getD-table 12 (λ j. headFor (advanceAll H cs .heads j)) h noHead l) at e);
       bare = λ h l e. rw (r .frame, getD-table 12 (λ j. headFor (advanceAll H cs .heads j)) h noHead l, e);
       standing = λ h l. rw (r .frame, getD-table 12 (λ j. headFor (advanceAll H cs .heads j)) h noHead l);
@@ -53,8 +55,8 @@ upheld H cs S =
     }
 
 fresh-picture : freshFrame ≡ frameFor noHistories
-unfolding freshFrame table slotFrom over
-fresh-picture = refl
+unfolding freshFrame table snapshotFrom
+fresh-picture = rw no-sheet refl
 
 pub demand3 : Demand3
 unfolding Demand3

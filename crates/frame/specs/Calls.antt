@@ -1,22 +1,23 @@
--- Each call's whole result, as its contract has it.
+-- What each call does to a frame, as its contract has it.
 use Prim.Native.Nat.{ℕ, _+_}
+use mathlib.Core.Path.{_≡_}
 use mathlib.Core.Bool.{Bool, cond}
 use mathlib.Core.List.{List, []}
 use lib.Dec.{leb, ltb, eqb}
 use lib.ListN.{getD, set, replicate}
 use lib.Ieee.{Float}
 use Rattle.filter_core.specs.Buffer.{within}
-use Rattle.sheets.specs.Refusal.{_then_}
 use Rattle.sheets.specs.Sheet.{checkOf}
 use Rattle.library.specs.Library.{none, libraryOf, entryAt, writeOf, writtenOf}
 use Rattle.library.specs.declared.Library.{Library}
-use Rattle.library.specs.declared.entry.Entry.{Entry}
-use Rattle.runs.specs.Kind.{kindOf, rested}
+use Rattle.any_filter.specs.Cases.{typeOf, rested}
+use Rattle.any_filter.specs.declared.Filter.{Filter}
 use Rattle.runs.specs.Form.{runRefusal, runTwoRefusal}
 use Rattle.runs.specs.Run.{through, firstOutput, secondOutput}
 use Rattle.runs.specs.declared.RunForm.{RunForm}
 use Rattle.loads.specs.Load.{filterOf}
 use Rattle.frame.specs.Table.{table}
+use Rattle.frame.specs.Call.{Act, load, run, runTwo, rest, mark, back, drop, Call, opening, writing, at, Reply, answered, marked, ran, ranTwo, wrote, refusedAct, refused}
 use Rattle.frame.specs.declared.Slot.{Slot}
 use Rattle.frame.specs.declared.Slot.the-variants.{Empty, Holds}
 use Rattle.frame.specs.declared.Snapshot.{Snapshot}
@@ -27,10 +28,7 @@ use Rattle.frame.specs.declared.Marked.{Marked}
 use Rattle.frame.specs.declared.Wrote.{Wrote}
 use Rattle.frame.specs.declared.Shown.{Shown}
 
--- What a call does at its head: it is refused with a number, or it is accepted, answers a number and leaves two outputs and a head.
-pub data Turn : Type 0 where
-  refuse : ℕ → Turn
-  accept : ℕ → List Float → List Float → Head → Turn
+-- ---- heads and frames
 
 abbrev pub emptySnapshot : Snapshot
 emptySnapshot = record { slot = Empty }
@@ -45,76 +43,73 @@ noHead = record { now = emptySnapshot; marks = []; marked = 0 }
 abbrev pub headAt : Frame → ℕ → Head
 headAt f h = getD (f .heads) h noHead
 
--- the head with another filter: its marks stay
-abbrev pub holding : Head → Slot → Head
-holding x s = record { now = record { slot = s }; marks = x .marks; marked = x .marked }
+abbrev pub withHead : Frame → ℕ → Head → Frame
+withHead f h x = record { heads = set (f .heads) h x; library = f .library }
 
--- ---- the parts of a turn. A refused call leaves the outputs and the frame
+abbrev pub withLibrary : Frame → Library → Frame
+withLibrary f l = record { heads = f .heads; library = l }
 
-abbrev pub numberIn : Turn → ℕ
-numberIn (refuse n) = n
-numberIn (accept m ys zs x) = 0
+-- the head with something else in it: its marks stay
+abbrev pub holding : Head → Snapshot → Head
+holding x s = record { now = s; marks = x .marks; marked = x .marked }
 
-abbrev pub answerIn : Turn → ℕ
-answerIn (refuse n) = 0
-answerIn (accept m ys zs x) = m
+abbrev pub holds : Filter → Snapshot
+holds f = record { slot = Holds f }
 
-abbrev pub firstIn : Turn → List Float → List Float
-firstIn (refuse n) ys = ys
-firstIn (accept m ys′ zs′ x) ys = ys′
+-- the head r and the outputs after a run of the filter f in the head x
 
-abbrev pub secondIn : Turn → List Float → List Float
-secondIn (refuse n) zs = zs
-secondIn (accept m ys′ zs′ x) zs = zs′
+pub record HeadRan (x : Head) (f : Filter) (form : RunForm) (us ys : List Float) (r : Head) (ys′ : List Float) : Type 0 where
+  pub head-is : r ≡ holding x (holds (through f form (within us ys)))
+  pub output-is : ys′ ≡ firstOutput f form (within us ys) ys
 
-abbrev pub frameIn : Turn → Frame → ℕ → Frame
-frameIn (refuse n) f h = f
-frameIn (accept m ys zs x) f h = record { heads = set (f .heads) h x; library = f .library }
+pub record HeadRanTwo (x : Head) (f : Filter) (form : RunForm) (us ys zs : List Float) (r : Head) (ys′ zs′ : List Float) : Type 0 where
+  pub head-is : r ≡ holding x (holds (through f form (within (within us ys) zs)))
+  pub first-is : ys′ ≡ firstOutput f form (within (within us ys) zs) ys
+  pub second-is : zs′ ≡ secondOutput f form (within (within us ys) zs) zs
 
-abbrev pub answered : Frame → ℕ → Turn → Answer
-answered f h t = record { number = numberIn t; frame = frameIn t f h }
+-- ---- each call at a head: it is refused with a number, or accepted with a reply, and leaves a head
 
--- ---- each call at a head
+pub data Turn : Type 0 where
+  refuse : ℕ → Turn
+  accept : Reply → Head → Turn
 
 -- a refusal's number, or a turn where it is 0
 abbrev pub unless : ℕ → Turn → Turn
 unless n t = cond (eqb n 0) t (refuse n)
 
-abbrev pub loadedEntry : Library → ℕ → Entry
-loadedEntry l e = entryAt l e
+-- an empty head is refused
+abbrev pub onFilter : Slot → (Filter → Turn) → Turn
+onFilter Empty t = refuse 6
+onFilter (Holds f) t = t f
 
 abbrev pub loadTurn : Library → Head → ℕ → Turn
-loadTurn l x e = cond (leb (l .n) e) (refuse 5) (accept 0 [] [] (holding x (Holds (filterOf (loadedEntry l e)))))
+loadTurn l x e = cond (leb (l .n) e) (refuse 5) (accept (answered 0) (holding x (holds (filterOf (entryAt l e)))))
 
-abbrev pub runTurn : Head → Slot → RunForm → List Float → List Float → Turn
-runTurn x Empty form us ys = refuse 6
-runTurn x (Holds f) form us ys =
-    unless (runRefusal (kindOf f) form) (accept 0 (firstOutput f form (within us ys) ys) [] (holding x (Holds (through f form (within us ys)))))
+abbrev pub runTurn : Head → RunForm → List Float → List Float → Filter → Turn
+runTurn x form us ys f =
+    unless (runRefusal (typeOf f) form) (accept (ran 0 (firstOutput f form (within us ys) ys)) (holding x (holds (through f form (within us ys)))))
 
-abbrev pub runTwoTurn : Head → Slot → RunForm → List Float → List Float → List Float → Turn
-runTwoTurn x Empty form us ys zs = refuse 6
-runTwoTurn x (Holds f) form us ys zs =
+abbrev pub runTwoTurn : Head → RunForm → List Float → List Float → List Float → Filter → Turn
+runTwoTurn x form us ys zs f =
     let s = within (within us ys) zs in
-    unless (runTwoRefusal (kindOf f) form) (accept 0 (firstOutput f form s ys) (secondOutput f form s zs) (holding x (Holds (through f form s))))
+    unless (runTwoRefusal (typeOf f) form) (accept (ranTwo 0 (firstOutput f form s ys) (secondOutput f form s zs)) (holding x (holds (through f form s))))
 
-abbrev pub restTurn : Head → Slot → Turn
-restTurn x Empty = refuse 6
-restTurn x (Holds f) = accept 0 [] [] (holding x (Holds (rested f)))
+abbrev pub restTurn : Head → Filter → Turn
+restTurn x f = accept (answered 0) (holding x (holds (rested f)))
 
 -- a head with a mark above this has four
 abbrev pub lastMark : ℕ
 lastMark = 3
 
+abbrev pub markedHead : Head → Head
+markedHead x = record { now = x .now; marks = set (x .marks) (x .marked) (x .now); marked = x .marked + 1 }
+
 -- the number of the mark that a head gets next
 abbrev pub nextMark : Head → ℕ
 nextMark x = x .marked
 
-abbrev pub markedHead : Head → Head
-markedHead x = record { now = x .now; marks = set (x .marks) (x .marked) (x .now); marked = x .marked + 1 }
-
-abbrev pub markTurn : Head → Slot → Turn
-markTurn x Empty = refuse 6
-markTurn x (Holds f) = cond (ltb lastMark (x .marked)) (refuse 8) (accept (nextMark x) [] [] (markedHead x))
+abbrev pub markTurn : Head → Filter → Turn
+markTurn x f = cond (ltb lastMark (x .marked)) (refuse 8) (accept (marked 0 (nextMark x)) (markedHead x))
 
 abbrev pub onlyIf : Bool → Snapshot → Snapshot
 onlyIf b s = cond b s emptySnapshot
@@ -123,64 +118,76 @@ onlyIf b s = cond b s emptySnapshot
 abbrev pub marksBelow : ℕ → List Snapshot → List Snapshot
 marksBelow k marks = table 4 (λ i. onlyIf (ltb i k) (getD marks i emptySnapshot))
 
--- the head after back m and after drop m, where ms are the marks that stay
+-- the head after back m and after drop m
 
-abbrev pub backHead : Head → ℕ → List Snapshot → Head
-backHead x m ms = record { now = getD (x .marks) m emptySnapshot; marks = ms; marked = m + 1 }
+abbrev pub backHead : Head → ℕ → Head
+backHead x m = record { now = getD (x .marks) m emptySnapshot; marks = marksBelow (m + 1) (x .marks); marked = m + 1 }
 
-abbrev pub dropHead : Head → ℕ → List Snapshot → Head
-dropHead x m ms = record { now = x .now; marks = ms; marked = m }
+abbrev pub dropHead : Head → ℕ → Head
+dropHead x m = record { now = x .now; marks = marksBelow m (x .marks); marked = m }
 
 -- no head has a mark above 3, so the second test refuses none that stands
+abbrev pub atMark : Head → ℕ → Turn → Turn
+atMark x m t = cond (leb (x .marked) m) (refuse 7) (cond (ltb 3 m) (refuse 7) t)
 
-abbrev pub backTurn : Head → ℕ → Turn
-backTurn x m =
-    cond (leb (x .marked) m) (refuse 7) (cond (ltb 3 m) (refuse 7) (accept 0 [] [] (backHead x m (marksBelow (m + 1) (x .marks)))))
-
-abbrev pub dropTurn : Head → ℕ → Turn
-dropTurn x m = cond (leb (x .marked) m) (refuse 7) (cond (ltb 3 m) (refuse 7) (accept 0 [] [] (dropHead x m (marksBelow m (x .marks)))))
+abbrev pub turn : Library → Head → Act → Turn
+turn l x (load e) = loadTurn l x e
+turn l x (run form us ys) = onFilter (x .now .slot) (runTurn x form us ys)
+turn l x (runTwo form us ys zs) = onFilter (x .now .slot) (runTwoTurn x form us ys zs)
+turn l x rest = onFilter (x .now .slot) (restTurn x)
+turn l x mark = onFilter (x .now .slot) (markTurn x)
+turn l x (back m) = atMark x m (accept (answered 0) (backHead x m))
+turn l x (drop m) = atMark x m (accept (answered 0) (dropHead x m))
 
 -- a head above 11 is refused first
 abbrev pub atHead : ℕ → Turn → Turn
 atHead h t = cond (ltb 11 h) (refuse 1) t
 
--- ---- the calls
+-- ---- each call: what a caller sees, and the frame that the next call gets
+
+pub record Done : Type 0 where
+  pub reply : Reply
+  pub frame : Frame
+
+-- a refused call leaves the frame
+abbrev pub settled : Frame → ℕ → Act → Turn → Done
+settled f h a (refuse n) = record { reply = refusedAct n a; frame = f }
+settled f h a (accept r x) = record { reply = r; frame = withHead f h x }
+
+unfoldable pub perform : Frame → Call → Done
+perform f (opening s) =
+    cond (eqb (checkOf s) 0) (record { reply = answered 0; frame = withLibrary f (libraryOf s) }) (record { reply = answered (checkOf s); frame = f })
+perform f (writing out) =
+    record { reply = wrote (writeOf (f .library) out .number) (writeOf (f .library) out .length) (writtenOf (f .library) out); frame = f }
+perform f (at h a) = settled f h a (atHead h (turn (f .library) (headAt f h) a))
+
+-- ---- the answers of the code, with the lent outputs as they are left
+
+abbrev pub withNumber : ℕ → Frame → Answer
+withNumber n f = record { number = n; frame = f }
+
+abbrev pub noMark : ℕ → Frame → Marked
+noMark n f = record { number = n; mark = 0; frame = f }
+
+abbrev pub plainly : Answer → Done
+plainly a = record { reply = answered (a .number); frame = a .frame }
+
+abbrev pub withOutput : Answer → List Float → Done
+withOutput a ys = record { reply = ran (a .number) ys; frame = a .frame }
+
+abbrev pub withOutputs : Answer → List Float → List Float → Done
+withOutputs a ys zs = record { reply = ranTwo (a .number) ys zs; frame = a .frame }
+
+abbrev pub withMark : Marked → Done
+withMark a = record { reply = marked (a .number) (a .mark); frame = a .frame }
+
+abbrev pub withBytes : Wrote → List ℕ → Done
+withBytes a out = record { reply = wrote (a .number) (a .length) out; frame = a .frame }
+
+-- ---- a fresh frame, and a head as it stands; of a head above 11, an empty one
 
 unfoldable pub freshFrame : Frame
 freshFrame = record { heads = replicate 12 emptyHead; library = none }
 
-unfoldable pub openOf : Frame → List ℕ → Answer
-openOf f s =
-    cond (eqb (checkOf s) 0) (record { number = 0; frame = record { heads = f .heads; library = libraryOf s } }) (record { number = checkOf s; frame = f })
-
-unfoldable pub loadOf : Frame → ℕ → ℕ → Answer
-loadOf f h e = answered f h (atHead h (loadTurn (f .library) (headAt f h) e))
-
-unfoldable pub runOf : Frame → ℕ → RunForm → List Float → List Float → Answer × List Float
-runOf f h form us ys = let t = atHead h (runTurn (headAt f h) (headAt f h .now .slot) form us ys) in (answered f h t, firstIn t ys)
-
-unfoldable pub runTwoOf : Frame → ℕ → RunForm → List Float → List Float → List Float → Answer × List Float × List Float
-runTwoOf f h form us ys zs =
-    let t = atHead h (runTwoTurn (headAt f h) (headAt f h .now .slot) form us ys zs) in (answered f h t, firstIn t ys, secondIn t zs)
-
-unfoldable pub restOf : Frame → ℕ → Answer
-restOf f h = answered f h (atHead h (restTurn (headAt f h) (headAt f h .now .slot)))
-
-unfoldable pub markOf : Frame → ℕ → Marked
-markOf f h =
-    let t = atHead h (markTurn (headAt f h) (headAt f h .now .slot)) in record { number = numberIn t; mark = answerIn t; frame = frameIn t f h }
-
-unfoldable pub backOf : Frame → ℕ → ℕ → Answer
-backOf f h m = answered f h (atHead h (backTurn (headAt f h) m))
-
-unfoldable pub dropOf : Frame → ℕ → ℕ → Answer
-dropOf f h m = answered f h (atHead h (dropTurn (headAt f h) m))
-
--- the library's bytes; the frame is handed back as it is
-unfoldable pub writeFrameOf : Frame → List ℕ → Wrote × List ℕ
-writeFrameOf f out =
-    (record { number = writeOf (f .library) out .number; length = writeOf (f .library) out .length; frame = f }, writtenOf (f .library) out)
-
--- a head as it stands; of a head above 11, an empty one
 unfoldable pub showOf : Frame → ℕ → Shown
 showOf f h = cond (ltb 11 h) (record { number = 1; head = emptyHead; frame = f }) (record { number = 0; head = headAt f h; frame = f })

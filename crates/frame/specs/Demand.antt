@@ -3,51 +3,14 @@ use Prim.Native.Nat.{ℕ, _<_}
 use mathlib.Core.Path.{_≡_}
 use mathlib.Core.List.{List, [], _∷_, map}
 use lib.ListN.{length, take}
-use lib.Ieee.{Float}
 use Rattle.library.specs.Library.{libraryOf}
-use Rattle.frame.specs.Calls.{freshFrame, openOf, loadOf, runOf, runTwoOf, restOf, markOf, backOf, dropOf, writeFrameOf, headAt}
-use Rattle.frame.specs.History.{Call, opening, writing, at, load, run, runTwo, rest, mark, back, drop, Event, Histories, noHistories, advanceAll, slotOf, Reply, repliesTo}
+use Rattle.frame.specs.Call.{Call, Reply}
+use Rattle.frame.specs.Calls.{freshFrame, headAt, perform}
+use Rattle.frame.specs.History.{Histories, noHistories, advanceAll, snapshotOf, repliesTo}
 use Rattle.frame.specs.declared.Slot.the-variants.{Empty}
-use Rattle.frame.specs.declared.Snapshot.{Snapshot}
 use Rattle.frame.specs.declared.Frame.{Frame}
-use Rattle.frame.specs.declared.Answer.{Answer}
-use Rattle.frame.specs.declared.Marked.{Marked}
-use Rattle.frame.specs.declared.Wrote.{Wrote}
 
--- ---- the calls carried out, each by its contract's own definition
-
--- what a caller sees, and the frame that the next call gets
-pub record Done : Type 0 where
-  pub reply : Reply
-  pub frame : Frame
-
-abbrev pub plainly : Answer → Done
-plainly a = record { reply = record { number = a .number; answer = 0; first = []; second = []; bytes = [] }; frame = a .frame }
-
-abbrev pub runDone : Answer × List Float → Done
-runDone r = record { reply = record { number = r .0 .number; answer = 0; first = r .1; second = []; bytes = [] }; frame = r .0 .frame }
-
-abbrev pub runTwoDone : Answer × List Float × List Float → Done
-runTwoDone r = record { reply = record { number = r .0 .number; answer = 0; first = r .1; second = r .2; bytes = [] }; frame = r .0 .frame }
-
-abbrev pub markDone : Marked → Done
-markDone m = record { reply = record { number = m .number; answer = m .mark; first = []; second = []; bytes = [] }; frame = m .frame }
-
-abbrev pub writeDone : Wrote × List ℕ → Done
-writeDone w = record { reply = record { number = w .0 .number; answer = w .0 .length; first = []; second = []; bytes = w .1 }; frame = w .0 .frame }
-
-unfoldable pub perform : Frame → Call → Done
-perform f (opening s) = plainly (openOf f s)
-perform f (writing out) = writeDone (writeFrameOf f out)
-perform f (at h (load e)) = plainly (loadOf f h e)
-perform f (at h (run form us ys)) = runDone (runOf f h form us ys)
-perform f (at h (runTwo form us ys zs)) = runTwoDone (runTwoOf f h form us ys zs)
-perform f (at h rest) = plainly (restOf f h)
-perform f (at h mark) = markDone (markOf f h)
-perform f (at h (back m)) = plainly (backOf f h m)
-perform f (at h (drop m)) = plainly (dropOf f h m)
-
--- each call gets the frame that the one before handed back
+-- ---- the calls carried out, each by its contract's own definition, on the frame that the one before handed back
 
 unfoldable pub repliesFrom : Frame → List Call → List Reply
 repliesFrom f [] = []
@@ -58,9 +21,6 @@ frameAfter f [] = f
 frameAfter f (c ∷ cs) = frameAfter (perform f c .frame) cs
 
 -- ---- the statement
-
-abbrev pub snapshotOf : List Event → Snapshot
-snapshotOf l = record { slot = slotOf l }
 
 -- the calls cs on the frame f do what the histories H, grown by them, say
 pub record Upheld (f : Frame) (H : Histories) (cs : List Call) : Type 0 where

@@ -1,4 +1,6 @@
 pub mod Table
+pub mod Call
 pub mod Calls
 pub mod History
+pub mod Rows
 pub mod Demand

@@ -1,11 +1,15 @@
 // The frame: twelve heads, each empty or with one filter and up to four marks, and one library.
 // Each call takes the frame by value and hands it back in its answer. A refused call hands it back as it was.
 
+use any_filter::Filter;
 use library::Library;
-use runs::Filter;
 use runs::RunForm;
 ghost use mathlib.Core.Path.{_≡_};
-ghost use Rattle.frame.specs.Calls.{freshFrame, openOf, loadOf, runOf, runTwoOf, restOf, markOf, backOf, dropOf, writeFrameOf, showOf, emptySnapshot, holding, onlyIf, marksBelow};
+ghost use Rattle.any_filter.specs.Cases.{typeOf};
+ghost use Rattle.runs.specs.Form.{runRefusal, runTwoRefusal};
+ghost use Rattle.frame.specs.Call.{load, run, runTwo, rest, mark, back, drop, opening, writing, at};
+ghost use Rattle.frame.specs.Calls.{emptySnapshot, onlyIf, marksBelow, holding, holds, HeadRan, HeadRanTwo, withNumber, noMark, freshFrame, perform, plainly, withOutput, withOutputs, withMark, withBytes, showOf};
+ghost use Rattle.frame.specs.Rows.{NumbersByRows};
 ghost use Rattle.frame.specs.Demand.{Demand3};
 
 pub enum Slot {
@@ -79,17 +83,83 @@ fn marks_below(k: usize, marks: [Snapshot; 4]) -> [Snapshot; 4]
     [a, b, c, d]
 }
 
-// The head with another filter. Its marks stay.
-fn holding(head: Head, filter: Filter) -> Head
-    ensures { λ r. ⌜ r ≡ holding head (Slot.Holds filter) ⌝ }
+// The head with something else in it. Its marks stay.
+fn holding(head: Head, now: Snapshot) -> Head
+    ensures { λ r. ⌜ r ≡ holding head now ⌝ }
 {
     let marks = head.marks;
     Head {
-        now: Snapshot {
-            slot: Slot::Holds(filter),
-        },
+        now: now,
         marks: marks,
         marked: head.marked,
+    }
+}
+
+fn held_by(head: Head) -> Slot
+    ensures { λ r. ⌜ r ≡ head .now .slot ⌝ }
+{
+    let now = head.now;
+    now.slot
+}
+
+fn holds(filter: Filter) -> Snapshot
+    ensures { λ r. ⌜ r ≡ holds filter ⌝ }
+{
+    Snapshot {
+        slot: Slot::Holds(filter),
+    }
+}
+
+// The head after a run that is not refused.
+fn after_run(head: Head, filter: Filter, form: RunForm, input: &[f32], output: &mut [f32]) -> Head
+    requires { ⌜ runRefusal (typeOf filter) form ≡ 0 ⌝ }
+    ensures { λ r. ⌜ HeadRan head filter form (now (input .entry)) (now (output .entry)) r (now (output .exit)) ⌝ }
+{
+    holding(head, holds(runs::run(filter, form, input, output)))
+}
+
+fn after_run_two(
+    head: Head,
+    filter: Filter,
+    form: RunForm,
+    input: &[f32],
+    first: &mut [f32],
+    second: &mut [f32],
+) -> Head
+    requires { ⌜ runTwoRefusal (typeOf filter) form ≡ 0 ⌝ }
+    ensures { λ r. ⌜ HeadRanTwo head filter form (now (input .entry)) (now (first .entry)) (now (second .entry)) r (now (first .exit)) (now (second .exit)) ⌝ }
+{
+    holding(
+        head,
+        holds(runs::run_two(filter, form, input, first, second)),
+    )
+}
+
+fn refused(frame: Frame, number: u8) -> Answer
+    ensures { λ r. ⌜ r ≡ withNumber number frame ⌝ }
+{
+    Answer {
+        number: number,
+        frame: frame,
+    }
+}
+
+fn accepted(frame: Frame) -> Answer
+    ensures { λ r. ⌜ r ≡ withNumber 0 frame ⌝ }
+{
+    Answer {
+        number: 0,
+        frame: frame,
+    }
+}
+
+fn no_mark(frame: Frame, number: u8) -> Marked
+    ensures { λ r. ⌜ r ≡ noMark number frame ⌝ }
+{
+    Marked {
+        number: number,
+        mark: 0,
+        frame: frame,
     }
 }
 
@@ -111,86 +181,54 @@ impl Frame {
     }
 
     // Takes a sheet as the library.
-    pub fn open(self, sheet: &[u8]) -> Answer
-        ensures { λ r. ⌜ r ≡ openOf self (now (sheet .entry)) ⌝ }
+    pub fn open(mut self, sheet: &[u8]) -> Answer
+        ensures { λ r. ⌜ plainly r ≡ perform self (opening (now (sheet .entry))) ⌝ }
     {
         let reading = library::read(sheet);
         if reading.number != 0 {
-            return Answer {
-                number: reading.number,
-                frame: self,
-            };
+            return refused(self, reading.number);
         }
-        let heads = self.heads;
         let library = reading.library;
-        Answer {
-            number: 0,
-            frame: Frame {
-                heads: heads,
-                library: library,
-            },
-        }
+        self.library = library;
+        accepted(self)
     }
 
     // Puts the filter of an entry into a head. The settings are copied; the marks stay.
     pub fn load(mut self, head: usize, entry: usize) -> Answer
-        ensures { λ r. ⌜ r ≡ loadOf self head entry ⌝ }
+        ensures { λ r. ⌜ plainly r ≡ perform self (at head (load entry)) ⌝ }
     {
         if 11 < head {
-            return Answer {
-                number: 1,
-                frame: self,
-            };
+            return refused(self, 1);
         }
         let library = self.library;
         let n = library.n;
         if n <= entry {
-            return Answer {
-                number: 5,
-                frame: self,
-            };
+            return refused(self, 5);
         }
         let filter = loads::filter_of(library::entry_at(library, entry));
         let h = self.heads[head];
-        self.heads[head] = holding(h, filter);
-        Answer {
-            number: 0,
-            frame: self,
-        }
+        self.heads[head] = holding(h, holds(filter));
+        accepted(self)
     }
 
     // Runs a form with one output.
-    pub fn run(mut self, head: usize, form: RunForm, input: &[f32], out: &mut [f32]) -> Answer
-        ensures { λ r. ⌜ (r, now (out .exit)) ≡ runOf self head form (now (input .entry)) (now (out .entry)) ⌝ }
+    pub fn run(mut self, head: usize, form: RunForm, input: &[f32], output: &mut [f32]) -> Answer
+        ensures { λ r. ⌜ withOutput r (now (output .exit)) ≡ perform self (at head (run form (now (input .entry)) (now (output .entry)))) ⌝ }
     {
         if 11 < head {
-            return Answer {
-                number: 1,
-                frame: self,
-            };
+            return refused(self, 1);
         }
         let h = self.heads[head];
-        let held = h.now;
-        let slot = held.slot;
+        let slot = held_by(h);
         let Slot::Holds(filter) = slot else {
-            return Answer {
-                number: 6,
-                frame: self,
-            };
+            return refused(self, 6);
         };
-        let ran = runs::run(filter, form, input, out);
-        if ran.number != 0 {
-            return Answer {
-                number: ran.number,
-                frame: self,
-            };
+        let number = runs::run_refusal(filter, form);
+        if number != 0 {
+            return refused(self, number);
         }
-        let after = ran.filter;
-        self.heads[head] = holding(h, after);
-        Answer {
-            number: 0,
-            frame: self,
-        }
+        self.heads[head] = after_run(h, filter, form, input, output);
+        accepted(self)
     }
 
     // Runs a form with two outputs.
@@ -202,92 +240,56 @@ impl Frame {
         first: &mut [f32],
         second: &mut [f32],
     ) -> Answer
-        ensures { λ r. ⌜ (r, now (first .exit), now (second .exit)) ≡ runTwoOf self head form (now (input .entry)) (now (first .entry)) (now (second .entry)) ⌝ }
+        ensures { λ r. ⌜ withOutputs r (now (first .exit)) (now (second .exit)) ≡ perform self (at head (runTwo form (now (input .entry)) (now (first .entry)) (now (second .entry)))) ⌝ }
     {
         if 11 < head {
-            return Answer {
-                number: 1,
-                frame: self,
-            };
+            return refused(self, 1);
         }
         let h = self.heads[head];
-        let held = h.now;
-        let slot = held.slot;
+        let slot = held_by(h);
         let Slot::Holds(filter) = slot else {
-            return Answer {
-                number: 6,
-                frame: self,
-            };
+            return refused(self, 6);
         };
-        let ran = runs::run_two(filter, form, input, first, second);
-        if ran.number != 0 {
-            return Answer {
-                number: ran.number,
-                frame: self,
-            };
+        let number = runs::run_two_refusal(filter, form);
+        if number != 0 {
+            return refused(self, number);
         }
-        let after = ran.filter;
-        self.heads[head] = holding(h, after);
-        Answer {
-            number: 0,
-            frame: self,
-        }
+        self.heads[head] = after_run_two(h, filter, form, input, first, second);
+        accepted(self)
     }
 
     // Clears what a head's filter retains of past samples.
     pub fn rest(mut self, head: usize) -> Answer
-        ensures { λ r. ⌜ r ≡ restOf self head ⌝ }
+        ensures { λ r. ⌜ plainly r ≡ perform self (at head rest) ⌝ }
     {
         if 11 < head {
-            return Answer {
-                number: 1,
-                frame: self,
-            };
+            return refused(self, 1);
         }
         let h = self.heads[head];
-        let held = h.now;
-        let slot = held.slot;
+        let slot = held_by(h);
         let Slot::Holds(filter) = slot else {
-            return Answer {
-                number: 6,
-                frame: self,
-            };
+            return refused(self, 6);
         };
-        self.heads[head] = holding(h, runs::rest(filter));
-        Answer {
-            number: 0,
-            frame: self,
-        }
+        self.heads[head] = holding(h, holds(filter.rest()));
+        accepted(self)
     }
 
     // Records a head, and answers the mark's number.
     pub fn mark(mut self, head: usize) -> Marked
-        ensures { λ r. ⌜ r ≡ markOf self head ⌝ }
+        ensures { λ r. ⌜ withMark r ≡ perform self (at head mark) ⌝ }
     {
         if 11 < head {
-            return Marked {
-                number: 1,
-                mark: 0,
-                frame: self,
-            };
+            return no_mark(self, 1);
         }
         let h = self.heads[head];
         let held = h.now;
         let slot = held.slot;
         let Slot::Holds(_) = slot else {
-            return Marked {
-                number: 6,
-                mark: 0,
-                frame: self,
-            };
+            return no_mark(self, 6);
         };
         let at = h.marked;
         if 3 < at {
-            return Marked {
-                number: 8,
-                mark: 0,
-                frame: self,
-            };
+            return no_mark(self, 8);
         }
         let mut marks = h.marks;
         marks[at] = held;
@@ -305,26 +307,17 @@ impl Frame {
 
     // Restores mark m, keeps it, and drops those above.
     pub fn back(mut self, head: usize, m: usize) -> Answer
-        ensures { λ r. ⌜ r ≡ backOf self head m ⌝ }
+        ensures { λ r. ⌜ plainly r ≡ perform self (at head (back m)) ⌝ }
     {
         if 11 < head {
-            return Answer {
-                number: 1,
-                frame: self,
-            };
+            return refused(self, 1);
         }
         let h = self.heads[head];
         if h.marked <= m {
-            return Answer {
-                number: 7,
-                frame: self,
-            };
+            return refused(self, 7);
         }
         if 3 < m {
-            return Answer {
-                number: 7,
-                frame: self,
-            };
+            return refused(self, 7);
         }
         let marks = h.marks;
         let old = marks[m];
@@ -333,34 +326,22 @@ impl Frame {
             marks: marks_below(m + 1, marks),
             marked: m + 1,
         };
-        Answer {
-            number: 0,
-            frame: self,
-        }
+        accepted(self)
     }
 
     // Drops mark m and those above. The filter stays.
     pub fn drop(mut self, head: usize, m: usize) -> Answer
-        ensures { λ r. ⌜ r ≡ dropOf self head m ⌝ }
+        ensures { λ r. ⌜ plainly r ≡ perform self (at head (drop m)) ⌝ }
     {
         if 11 < head {
-            return Answer {
-                number: 1,
-                frame: self,
-            };
+            return refused(self, 1);
         }
         let h = self.heads[head];
         if h.marked <= m {
-            return Answer {
-                number: 7,
-                frame: self,
-            };
+            return refused(self, 7);
         }
         if 3 < m {
-            return Answer {
-                number: 7,
-                frame: self,
-            };
+            return refused(self, 7);
         }
         let held = h.now;
         let marks = h.marks;
@@ -369,18 +350,15 @@ impl Frame {
             marks: marks_below(m, marks),
             marked: m,
         };
-        Answer {
-            number: 0,
-            frame: self,
-        }
+        accepted(self)
     }
 
     // Writes the library as a sheet.
-    pub fn write(self, out: &mut [u8]) -> Wrote
-        ensures { λ r. ⌜ (r, now (out .exit)) ≡ writeFrameOf self (now (out .entry)) ⌝ }
+    pub fn write(self, output: &mut [u8]) -> Wrote
+        ensures { λ r. ⌜ withBytes r (now (output .exit)) ≡ perform self (writing (now (output .entry))) ⌝ }
     {
         let library = self.library;
-        let written = library::write(library, out);
+        let written = library::write(library, output);
         Wrote {
             number: written.number,
             length: written.length,
@@ -412,6 +390,11 @@ impl Frame {
         }
     }
 }
+
+// Each number is answered in its row's case of the refusal table, and in no other.
+pub fn numbers_by_rows()
+    ensures { λ _. ⌜ NumbersByRows ⌝ }
+{}
 
 // Demand 3 of document 01: under every list of calls the frame does what the calls' histories say.
 pub fn history()

@@ -1,1 +1,1 @@
-pub mod KindBytes
+pub mod Loads

@@ -1,47 +1,51 @@
 // The filter that an entry of a library becomes in a head.
 
+use any_filter::Filter;
 use crossover_svf::CrossoverSvf;
 use dc_blocker::DcBlocker;
-use library::Entry;
 use modified_svf::ModifiedSvf;
 use naive_svf::NaiveSvf;
 use one_pole::OnePole;
-use runs::Filter;
+use sheets::Entry;
+use sheets::Setter;
 use svf::Svf;
 ghost use mathlib.Core.Path.{_≡_};
-ghost use Rattle.loads.specs.Load.{filterOf};
+ghost use Rattle.loads.specs.Load.{filterFor, filterOf};
 
-// New of the entry's type, then its setter. The settings are copied: a library opened later alters nothing here.
+// New of the setter's type, and then the setter. It takes as many of the three numbers as it has parameters.
+fn filter_for(setter: Setter, a: f32, b: f32, c: f32) -> Filter
+    ensures { λ r. ⌜ r ≡ filterFor setter a b c ⌝ }
+{
+    match setter {
+        Setter::DcBlocker => any_filter::of_dc(DcBlocker::new().init(a)),
+        Setter::OnePole(approximation) => {
+            let set = OnePole::new().set_f(a, approximation);
+            let filter = set.filter;
+            any_filter::of_one_pole(filter)
+        }
+        Setter::SvfFrequency(approximation) => {
+            let set = Svf::new().set_f_q(a, b, approximation);
+            let filter = set.filter;
+            any_filter::of_svf(filter)
+        }
+        Setter::SvfCoefficients => any_filter::of_svf(Svf::new().set_g_r_h(a, b, c)),
+        Setter::NaiveSvf(approximation) => {
+            let set = NaiveSvf::new().set_f_q(a, b, approximation);
+            let filter = set.filter;
+            any_filter::of_naive(filter)
+        }
+        Setter::ModifiedSvf => any_filter::of_modified(ModifiedSvf::new().set_f_fq(a, b)),
+        Setter::CrossoverSvf => any_filter::of_crossover(CrossoverSvf::new().set_f_fq(a, b)),
+        Setter::Unknown => any_filter::of_dc(DcBlocker::new().init(a)),
+    }
+}
+
+// The settings are copied: a library opened later alters nothing here.
 pub fn filter_of(entry: Entry) -> Filter
     ensures { λ r. ⌜ r ≡ filterOf entry ⌝ }
 {
-    match entry {
-        Entry::DcBlocker { pole } => runs::of_dc(DcBlocker::new().init(pole)),
-        Entry::OnePole { f, approximation } => {
-            let set = OnePole::new().set_f(f, approximation);
-            let filter = set.filter;
-            runs::of_one_pole(filter)
-        }
-        Entry::SvfFrequency {
-            f,
-            resonance,
-            approximation,
-        } => {
-            let set = Svf::new().set_f_q(f, resonance, approximation);
-            let filter = set.filter;
-            runs::of_svf(filter)
-        }
-        Entry::SvfCoefficients { g, r, h } => runs::of_svf(Svf::new().set_g_r_h(g, r, h)),
-        Entry::NaiveSvf {
-            f,
-            resonance,
-            approximation,
-        } => {
-            let set = NaiveSvf::new().set_f_q(f, resonance, approximation);
-            let filter = set.filter;
-            runs::of_naive(filter)
-        }
-        Entry::ModifiedSvf { f, fq } => runs::of_modified(ModifiedSvf::new().set_f_fq(f, fq)),
-        Entry::CrossoverSvf { f, fq } => runs::of_crossover(CrossoverSvf::new().set_f_fq(f, fq)),
-    }
+    let a = words::word_to_f32(entry.a);
+    let b = words::word_to_f32(entry.b);
+    let c = words::word_to_f32(entry.c);
+    filter_for(sheets::setter_of(entry.kind), a, b, c)
 }

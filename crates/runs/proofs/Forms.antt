@@ -6,7 +6,9 @@ use borrow.Author.Needs.{needs}
 use borrow.Author.Tests.{eq-eqb, ne-eqb}
 use Rattle.filter_core.specs.Refusal.{stepRefusal}
 use Rattle.filter_core.specs.declared.FilterMode.{FilterMode}
+use Rattle.any_filter.specs.Cases.{typeOf}
 use Rattle.any_filter.specs.declared.FilterType.{FilterType}
+use Rattle.any_filter.specs.declared.Filter.{Filter}
 use Rattle.runs.specs.Form.{hasForm, hasFormTwo, formRefusal, refusalIf, runRefusal, runTwoRefusal}
 use Rattle.runs.specs.declared.RunForm.{RunForm}
 use Rattle.runs.specs.declared.RunForm.the-variants.{Stride, Decimate}
@@ -24,11 +26,11 @@ module _ (form : RunForm) (n : ℕ) where
   pub decimate-refusal : (mode : FilterMode) (d : ℕ) → form ≡ Decimate mode d → n ≡ stepRefusal d → n ≡ formRefusal form
   decimate-refusal mode d f e = rw f e
 
-  module _ (k : FilterType) (has : Bool) where
-    pub refusal-one : has ≡ hasForm k form → n ≡ refusalIf has form → n ≡ runRefusal k form
-    refusal-one h e = rw h at e
+  module _ (f : Filter) (k : FilterType) (t : k ≡ typeOf f) (has : Bool) where
+    pub refusal-one : has ≡ hasForm k form → n ≡ refusalIf has form → n ≡ runRefusal (typeOf f) form
+    refusal-one h e = rw (h, t) at e
 
-    pub refusal-two : has ≡ hasFormTwo k form → n ≡ refusalIf has form → n ≡ runTwoRefusal k form
-    refusal-two h e = rw h at e
+    pub refusal-two : has ≡ hasFormTwo k form → n ≡ refusalIf has form → n ≡ runTwoRefusal (typeOf f) form
+    refusal-two h e = rw (h, t) at e
 
 pub ruleset refusing = (step-of-zero, step-above, stride-refusal, decimate-refusal, refusal-one, refusal-two, needs)

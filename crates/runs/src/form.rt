@@ -2,8 +2,10 @@
 
 ghost use mathlib.Core.Path.{_≡_};
 ghost use Rattle.filter_core.specs.Refusal.{stepRefusal};
+ghost use Rattle.any_filter.specs.Cases.{typeOf};
 ghost use Rattle.runs.specs.Form.{isSvf, isNaive, hasForm, hasFormTwo, formRefusal, refusalIf, runRefusal, runTwoRefusal};
 use crate::RunForm;
+use any_filter::Filter;
 use any_filter::FilterType;
 
 fn is_svf(filter: FilterType) -> bool
@@ -90,15 +92,15 @@ fn refusal_if(has: bool, form: RunForm) -> u8
 }
 
 // The number that a run with one output is refused with, 0 if it is not: 9, then 10.
-pub fn run_refusal(filter: FilterType, form: RunForm) -> u8
-    ensures { λ r. ⌜ r ≡ runRefusal filter form ⌝ }
+pub fn run_refusal(filter: Filter, form: RunForm) -> u8
+    ensures { λ r. ⌜ r ≡ runRefusal (typeOf filter) form ⌝ }
 {
-    refusal_if(has_form(filter, form), form)
+    refusal_if(has_form(filter.filter_type(), form), form)
 }
 
 // The same with two outputs.
-pub fn run_two_refusal(filter: FilterType, form: RunForm) -> u8
-    ensures { λ r. ⌜ r ≡ runTwoRefusal filter form ⌝ }
+pub fn run_two_refusal(filter: Filter, form: RunForm) -> u8
+    ensures { λ r. ⌜ r ≡ runTwoRefusal (typeOf filter) form ⌝ }
 {
-    refusal_if(has_form_two(filter, form), form)
+    refusal_if(has_form_two(filter.filter_type(), form), form)
 }

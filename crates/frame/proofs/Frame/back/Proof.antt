@@ -6,10 +6,13 @@ pub back-spec : {M : Type 1} → statement M
 back-spec =
     tie.close
     (tie.spec
+    (λ c κs. search turns)
     (λ c. search turns)
     (λ c. search turns)
     (λ c. search turns)
+    (λ c κs. search turns)
     (λ c. search turns)
+    (λ c κs. search turns)
     (λ c. search turns)
     (λ c. search turns)
     (λ c. search turns)
@@ -18,4 +21,5 @@ back-spec =
     (λ c. search turns)
     (λ c. search turns)
     (λ c. search turns)
+    (λ c κs. search turns)
     (λ c. search turns))

@@ -6,12 +6,16 @@ pub drop-spec : {M : Type 1} → statement M
 drop-spec =
     tie.close
     (tie.spec
-    (λ c. search turns)
-    (λ c. search turns)
+    (λ c κs. search turns)
     (λ c. search turns)
     (λ c. search turns)
     (λ c. search turns)
     (λ c κs. search turns)
     (λ c. search turns)
+    (λ c κs. search turns)
     (λ c. search turns)
+    (λ c κs. search turns)
+    (λ c. search turns)
+    (λ c. search turns)
+    (λ c κs. search turns)
     (λ c. search turns))

@@ -6,13 +6,17 @@ pub load-spec : {M : Type 1} → statement M
 load-spec =
     tie.close
     (tie.spec
+    (λ c κs. search turns)
     (λ c. search turns)
+    (λ c κs. search turns)
     (λ c. search turns)
     (λ c κs. search turns)
     (λ c κs. search turns)
     (λ c. search turns)
     (λ c. search turns)
     (λ c κs. search turns)
+    (λ c κs. search turns)
     (λ c. search turns)
     (λ c. search turns)
+    (λ c κs. search turns)
     (λ c. search turns))

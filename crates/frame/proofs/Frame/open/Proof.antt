@@ -7,5 +7,7 @@ open-spec =
     tie.close
     (tie.spec
     (λ c κs. search turns)
+    (λ c κs. search turns)
     (λ c. search turns)
+    (λ c κs. search turns)
     (λ c. search turns))

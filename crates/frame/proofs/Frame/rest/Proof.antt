@@ -6,14 +6,19 @@ pub rest-spec : {M : Type 1} → statement M
 rest-spec =
     tie.close
     (tie.spec
-    (λ c. search turns)
-    (λ c. search turns)
-    (λ c. search turns)
+    (λ c κs. search turns)
     (λ c. search turns)
     (λ c. search turns)
     (λ c. search turns)
     (λ c κs. search turns)
+    (λ c. search turns)
+    (λ c. search turns)
+    (λ c κs. search turns)
+    (λ c. search turns)
+    (λ c κs. search turns)
+    (λ c κs. search turns)
     (λ c κs. search turns)
     (λ c. search turns)
     (λ c. search turns)
+    (λ c κs. search turns)
     (λ c. search turns))

@@ -6,9 +6,7 @@ pub run-spec : {M : Type 1} → statement M
 run-spec =
     tie.close
     (tie.spec
-    (λ c. search turns)
-    (λ c. search turns)
-    (λ c. search turns)
+    (λ c κs. search turns)
     (λ c. search turns)
     (λ c. search turns)
     (λ c. search turns)
@@ -17,6 +15,12 @@ run-spec =
     (λ c. search turns)
     (λ c κs. search turns)
     (λ c. search turns)
+    (λ c κs. search turns)
+    (λ c κs. search turns)
     (λ c. search turns)
+    (λ c κs. search turns)
+    (λ c. search turns)
+    (λ c. search turns)
+    (λ c κs. search turns)
     (λ c. search turns)
     (λ c. search turns))

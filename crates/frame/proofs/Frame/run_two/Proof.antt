@@ -6,12 +6,6 @@ pub run-two-spec : {M : Type 1} → statement M
 run-two-spec =
     tie.close
     (tie.spec
-    (λ c. search turns)
-    (λ c. search turns)
-    (λ c. search turns)
-    (λ c. search turns)
-    (λ c. search turns)
-    (λ c. search turns)
     (λ c κs. search turns)
     (λ c. search turns)
     (λ c. search turns)
@@ -19,6 +13,15 @@ run-two-spec =
     (λ c κs. search turns)
     (λ c. search turns)
     (λ c. search turns)
+    (λ c κs. search turns)
+    (λ c. search turns)
+    (λ c κs. search turns)
+    (λ c κs. search turns)
+    (λ c. search turns)
+    (λ c κs. search turns)
+    (λ c. search turns)
+    (λ c. search turns)
+    (λ c κs. search turns)
     (λ c. search turns)
     (λ c. search turns)
     (λ c. search turns))

@@ -8,4 +8,5 @@ run-refusal-spec =
     (tie.spec
     (λ c κs. search refusing)
     (λ c κs. search refusing)
+    (λ c κs. search refusing)
     (λ c. search refusing))

@@ -1,0 +1,48 @@
+use Rattle.loads.proofs.Loads.{loading}
+use Rattle.loads.proofs.filter_for.Statement.{statement}
+use Rattle.loads.proofs.filter_for.Tie as tie
+
+pub filter-for-spec : {M : Type 1} → statement M
+filter-for-spec =
+    tie.close
+    (tie.spec
+    (λ c. search loading)
+    (λ c κs. search loading)
+    (λ c κs. search loading)
+    (λ c κs. search loading)
+    (λ c. search loading)
+    (λ c κs. search loading)
+    (λ c κs. search loading)
+    (λ c κs. search loading)
+    (λ c. search loading)
+    (λ c κs. search loading)
+    (λ c κs. search loading)
+    (λ c κs. search loading)
+    (λ c. search loading)
+    (λ c κs. search loading)
+    (λ c κs. search loading)
+    (λ c κs. search loading)
+    (λ c. search loading)
+    (λ c κs. search loading)
+    (λ c κs. search loading)
+    (λ c κs. search loading)
+    (λ c. search loading)
+    (λ c κs. search loading)
+    (λ c κs. search loading)
+    (λ c κs. search loading)
+    (λ c. search loading)
+    (λ c κs. search loading)
+    (λ c κs. search loading)
+    (λ c κs. search loading)
+    (λ c. search loading)
+    (λ c κs. search loading)
+    (λ c κs. search loading)
+    (λ c κs. search loading)
+    (λ c. search loading)
+    (λ c. search loading)
+    (λ c. search loading)
+    (λ c. search loading)
+    (λ c. search loading)
+    (λ c. search loading)
+    (λ c. search loading)
+    (λ c. search loading))
