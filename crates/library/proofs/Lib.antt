@@ -2,4 +2,5 @@ pub mod Zeros
 pub mod Readings
 pub mod Writings
 pub mod Entries
+pub mod Rows
 pub mod RoundTrip

@@ -14,31 +14,27 @@ use Rattle.library.specs.Library.{zeroBytes, none, libraryOf, readOf}
 use Rattle.library.specs.declared.Library.{Library}
 use Rattle.library.specs.declared.Reading.{Reading}
 
--- the size of an accepted sheet
-pub record Accepted (s : List ℕ) (n : ℕ) : Type 0 where
-  pub most : n ≤ 64
-  pub long : length s ≡ 2 + 13 * n
+-- the library of a sheet, as it is put together
+pub made : (s : List ℕ) (n : ℕ) {kinds settings : List ℕ} → n ≡ entriesOf s
+    → kinds ≡ over 0 (take (2 + n - 2) (drop 2 s)) (zeroBytes 64) → settings ≡ over 0 (take (length s - (2 + n)) (drop (2 + n) s)) (zeroBytes 768)
+    → _≡_ {A = Library} (record { n = n; kinds = kinds; settings = settings }) (libraryOf s)
+made s n {kinds} {settings} q x y =
+    let a : 2 + n - 2 ≡ n = omega arith in
+    let b : take (length s - (2 + n)) (drop (2 + n) s) ≡ drop (2 + n) s = take-all (length s - (2 + n)) (drop (2 + n) s) (omega (arith, length-drop (2 + n) s)) in
+    let x′ : kinds ≡ libraryOf s .kinds = x ∙ rw (a, q) refl in
+    let y′ : settings ≡ libraryOf s .settings = y ∙ rw (b, q) refl in
+    λ i. record { n = q i; kinds = x′ i; settings = y′ i }
 
 module _ (s : List ℕ) {number : ℕ} (p : number ≡ checkOf s) where
+  pub accepted-size : number ≡ 0 → Sized s
+  accepted-size z = check-size s (sym p ∙ z)
+
   pub no-reading : {l : Library} → (number ≡ 0 → ⊥) → l ≡ none → _≡_ {A = Reading} (record { number = number; library = l }) (readOf s)
   no-reading {l} z q = rw (← p, ne-eqb number 0 z, q) refl
 
-  pub accepted : (n : ℕ) → number ≡ 0 → n ≡ entriesOf s → Accepted s n
-  accepted n z q =
-      let d = check-size s (sym p ∙ z) in
-      let a = d .most in
-      let b = d .long in
-      record { most = omega arith; long = omega arith }
-
-  pub a-reading : (n : ℕ) {kinds settings : List ℕ} → number ≡ 0 → n ≡ entriesOf s
-      → kinds ≡ over 0 (take (2 + n - 2) (drop 2 s)) (zeroBytes 64) → settings ≡ over 0 (take (length s - (2 + n)) (drop (2 + n) s)) (zeroBytes 768)
-      → _≡_ {A = Reading} (record { number = 0; library = record { n = n; kinds = kinds; settings = settings } }) (readOf s)
-  a-reading n {kinds} {settings} z q x y =
-      let a : 2 + n - 2 ≡ n = omega arith in
-      let b : take (length s - (2 + n)) (drop (2 + n) s) ≡ drop (2 + n) s = take-all (length s - (2 + n)) (drop (2 + n) s) (omega (arith, length-drop (2 + n) s)) in
-      let x′ : kinds ≡ libraryOf s .kinds = x ∙ rw (a, q) refl in
-      let y′ : settings ≡ libraryOf s .settings = y ∙ rw (b, q) refl in
+  pub a-reading : {l : Library} → number ≡ 0 → l ≡ libraryOf s → _≡_ {A = Reading} (record { number = 0; library = l }) (readOf s)
+  a-reading {l} z q =
       let w : 0 ≡ checkOf s = sym z ∙ p in
-      rw (eq-eqb (checkOf s) 0 (sym w)) (λ i. record { number = w i; library = record { n = q i; kinds = x′ i; settings = y′ i } })
+      rw (eq-eqb (checkOf s) 0 (sym w)) (λ i. record { number = w i; library = q i })
 
-pub ruleset readings = (no-reading, a-reading, needs)
+pub ruleset readings = (made, accepted-size, no-reading, a-reading, needs)

@@ -3,7 +3,7 @@ use Prim.Native.Nat.{ℕ, zero, suc, _+_, _*_, _-_, _%_, _/_, _≤_, _<_}
 use mathlib.Core.Path.{_≡_, refl, sym, ap, _∙_}
 use mathlib.Core.List.{List, [], _∷_, _++_}
 use native.Mathlib.Omega.{arith}
-use borrow.Author.Tests.{ne-eqb, le-ltb}
+use borrow.Author.Tests.{ne-eqb}
 use lib.ListN.{length, getD, take, drop, length-take, length-drop, take-append-drop}
 use lib.Seq.{take-all, take-length, take-take, take-append-seam, drop-drop, getD-take, getD-drop}
 use Rattle.words.specs.Over.{over}
@@ -16,6 +16,7 @@ use Rattle.library.specs.RoundTrip.{Rewritten, ReadWrite, WriteRead, Ref
 use Rattle.library.specs.declared.Written.{Written}
 use Rattle.library.specs.declared.Reading.{Reading}
 use Rattle.library.proofs.Zeros.{length-zero-bytes}
+use Rattle.library.proofs.Rows.{write-accepted}
 
 -- ---- lists
 
@@ -69,9 +70,8 @@ module _ (s : List ℕ) (z : Sized s) where
 module _ (s : List ℕ) (h : Sheet s) where
   accepted : (out : List ℕ) → length s ≤ length out → writeRefusal (entriesOf s) (length out) ≡ 0
   accepted out r =
-      let n = entriesOf s in
       let l = h .size .long in
-      rw (le-ltb n 1 (h .size .some), le-ltb 64 n (h .size .most), le-ltb (length out) (2 + 13 * n) (omega arith)) refl
+      write-accepted (entriesOf s) (length out) (h .size .most) (h .size .some) (omega arith)
 
   pub rewritten : (out : List ℕ) → length s ≤ length out → Rewritten s out
   rewritten out r =

@@ -3,14 +3,16 @@ use Prim.Native.Nat.{ℕ, zero, suc, _+_, _*_, _-_, _%_, _/_, _≤_, _<_}
 use mathlib.Core.Path.{_≡_, refl, sym, ap, _∙_}
 use mathlib.Core.Bool.{Bool, true, false}
 use mathlib.Core.List.{List, [], _∷_, _++_, map}
+use mathlib.Core.Logic.{_⊎_, inl, inr}
 use native.Mathlib.Omega.{arith}
 use borrow.Author.Needs.{needs, length-unmapped}
-use borrow.Author.Tests.{ltb-false, eqb-true}
+use borrow.Author.Tests.{lt-ltb, le-ltb, eqb-true}
 use lib.Dec.{eqb, ltb}
 use lib.ListN.{length, getD, set, take, drop, length-append}
 use lib.Seq.{length-take-le}
 use Rattle.words.specs.Over.{over}
 use Rattle.words.proofs.Copies.{over-append, over-front}
+use Rattle.words.proofs.Rows.{below}
 use Rattle.library.specs.Library.{zeroBytes, bytesOf, writeRefusal, writtenLength, writeOf, writtenOf}
 use Rattle.library.specs.declared.Library.{Library}
 use Rattle.library.specs.declared.Written.{Written}
@@ -46,16 +48,15 @@ put-together l {a} {b} {w} {x} {y} k h p q d e f =
 
 -- ---- what is written of it
 
-two-is : _≡_ {A = ℕ} 2 0 → ⊥
-two-is z = omega arith
-
 pub few : (n room : ℕ) {number : ℕ} → number ≡ writeRefusal n room → number ≡ 0 → n ≤ 64
-few n room e z = go (ltb n 1) (ltb 64 n) refl refl (sym e ∙ z)
+few n room e z = go (below 64 n)
   where
-    go : (a b : Bool) → ltb n 1 ≡ a → ltb 64 n ≡ b → writeRefusal n room ≡ 0 → n ≤ 64
-    go true b p q h = absurd (two-is (rw p at h))
-    go false true p q h = absurd (two-is (rw (p, q) at h))
-    go false false p q h = ltb-false 64 n q
+    go : (64 < n) ⊎ (n ≤ 64) → n ≤ 64
+    go (inl a) =
+        let b : 1 ≤ n = omega arith in
+        let c : _≡_ {A = ℕ} 2 0 = rw (le-ltb n, lt-ltb 64) at (sym e ∙ z) in
+        absurd (omega arith)
+    go (inr a) = a
 
 pub part-count : (l : List ℕ) (k : ℕ) → length l ≡ 834 → k ≤ 834 → k ≡ length (take k l)
 part-count l k e h = sym (length-take-le k l (omega arith))

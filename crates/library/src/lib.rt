@@ -3,7 +3,9 @@
 ghost use mathlib.Core.Path.{_≡_};
 ghost use Prim.Native.Nat.{_%_, _≤_};
 ghost use Rattle.words.specs.Over.{over};
-ghost use Rattle.library.specs.Library.{zeroBytes, none, readOf, bytesOf, writeRefusal, writtenLength, writeOf, writtenOf, entryAt};
+ghost use Rattle.sheets.specs.Sheet.{entriesOf, Sized};
+ghost use Rattle.library.specs.Library.{zeroBytes, none, libraryOf, readOf, bytesOf, writeRefusal, writtenLength, writeOf, writtenOf, entryAt};
+ghost use Rattle.library.specs.Rows.{WriteByRows};
 ghost use Rattle.library.specs.RoundTrip.{ReadWrite, WriteRead, RefusedWrite, OneSheet, SameEntries};
 use sheets::Entry;
 
@@ -35,6 +37,22 @@ pub fn none() -> Library
     }
 }
 
+fn library_of(sheet: &[u8], n: usize) -> Library
+    requires { ⌜ Sized (now sheet) × (n ≡ entriesOf (now sheet)) ⌝ }
+    ensures { λ r. ⌜ r ≡ libraryOf (now (sheet .entry)) ⌝ }
+{
+    let end = 2 + n;
+    let mut kinds = [0u8; 64];
+    words::copy(&sheet[2..end], &mut kinds, 0);
+    let mut settings = [0u8; 768];
+    words::copy(&sheet[end..], &mut settings, 0);
+    Library {
+        n: n,
+        kinds: kinds,
+        settings: settings,
+    }
+}
+
 // The sheet's library, with the number 0; or the number that refuses it, with no library.
 pub fn read(sheet: &[u8]) -> Reading
     ensures { λ r. ⌜ r ≡ readOf (now (sheet .entry)) ⌝ }
@@ -46,19 +64,9 @@ pub fn read(sheet: &[u8]) -> Reading
             library: none(),
         };
     }
-    let n = sheets::entries(sheet);
-    let end = 2 + n;
-    let mut kinds = [0u8; 64];
-    words::copy(&sheet[2..end], &mut kinds, 0);
-    let mut settings = [0u8; 768];
-    words::copy(&sheet[end..], &mut settings, 0);
     Reading {
         number: 0,
-        library: Library {
-            n: n,
-            kinds: kinds,
-            settings: settings,
-        },
+        library: library_of(sheet, sheets::entries(sheet)),
     }
 }
 
@@ -138,6 +146,11 @@ pub fn entry_at(library: Library, e: usize) -> Entry
     let at = 12 * e;
     sheets::entry_of(kinds[e], &settings[at..at + 12])
 }
+
+// `write` answers each number in its row's case of the refusal table, and in no other.
+pub fn write_by_rows()
+    ensures { λ _. ⌜ WriteByRows ⌝ }
+{}
 
 // Reading a sheet and writing its library gives the sheet's bytes.
 pub fn read_write()

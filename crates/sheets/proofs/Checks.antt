@@ -10,25 +10,13 @@ use borrow.Author.Tests.{eqb-true, eqb-false, eq-eqb, ne-eqb, ltb-true, ltb-fals
 use lib.Dec.{eqb, ltb}
 use lib.ListN.{length, take, drop}
 use Rattle.words.specs.Word.{wordFrom, otherNan}
-use Rattle.sheets.specs.Refusal.{_then_, firstRefusal, wordRefusal, entryRefusal}
-use Rattle.sheets.specs.Sheet.{entriesOf, Sized, kindAt, entryOf, entryIn, sizeRefusal, refusalAt, checkOf, entryNumberRefusal, checkEntryOf, lookupOf}
+use Rattle.words.specs.Rows.{_then_}
+use Rattle.words.proofs.Rows.{then-zero, none-then, some-then, not-taken, taken}
+use Rattle.sheets.specs.Refusal.{firstRefusal, wordRefusal, entryRefusal}
+use Rattle.sheets.specs.Sheet.{entriesOf, Sized, kindAt, settingAt, entryOf, entryIn, sizeRefusal, refusalAt, checkOf, entryNumberRefusal, checkEntryOf, lookupOf}
 use Rattle.sheets.specs.declared.entry.Entry.{Entry}
 
--- ---- the first refusal of two, and of many
-
--- no refusal of two is none of each
-pub then-zero : (a b : ℕ) → (a then b) ≡ 0 → (a ≡ 0) × (b ≡ 0)
-then-zero a b h = go (eqb a 0) refl h
-  where
-    go : (t : Bool) → eqb a 0 ≡ t → cond (eqb a 0) b a ≡ 0 → (a ≡ 0) × (b ≡ 0)
-    go true q h = (eqb-true a 0 q, rw q at h)
-    go false q h = absurd (eqb-false a 0 q (rw q at h))
-
-pub none-then : (a b : ℕ) → a ≡ 0 → b ≡ (a then b)
-none-then a b h = rw (eq-eqb a 0 h) refl
-
-pub some-then : (a b : ℕ) → (a ≡ 0 → ⊥) → a ≡ (a then b)
-some-then a b h = rw (ne-eqb a 0 h) refl
+-- ---- the first refusal of many
 
 pub first-start : (f : ℕ → ℕ) → firstRefusal 0 f ≡ 0
 unfolding firstRefusal
@@ -46,6 +34,11 @@ first-found f (suc n) e {r} p h q z = go (λ l. first-found f n e p l q z) (eqb 
     go : (e < n → r ≡ firstRefusal n f) → (t : Bool) → eqb e n ≡ t → r ≡ firstRefusal (suc n) f
     go i true t = let w = eqb-true e n t in q ∙ rw (← w, p) refl
     go i false t = let w = i (omega (arith, eqb-false e n t)) in rw (← w) (some-then r (f n) z)
+
+pub first-all : (f : ℕ → ℕ) (n : ℕ) → ((e : ℕ) → e < n → f e ≡ 0) → firstRefusal n f ≡ 0
+unfolding firstRefusal
+first-all f zero h = refl
+first-all f (suc n) h = rw (first-all f n (λ e l. h e (omega arith)), h n (omega arith)) refl
 
 pub first-none : (f : ℕ → ℕ) (n e : ℕ) → firstRefusal e f ≡ 0 → e ≤ n → n ≤ e → 0 ≡ firstRefusal n f
 first-none f n e p a b = let w : e ≡ n = omega arith in sym (rw w at p)
@@ -66,15 +59,6 @@ module _ (u k w : ℕ) where
   unused-refused l e = rw (le-ltb k u l, ne-eqb w 0 e) refl
 
 -- ---- sizes
-
--- a choice that is 0, the first way of which is not
-second : (b : Bool) (x y : ℕ) → (x ≡ 0 → ⊥) → cond b x y ≡ 0 → (b ≡ false) × (y ≡ 0)
-second true x y d h = absurd (d h)
-second false x y d h = (refl, h)
-
-first : (b : Bool) (x : ℕ) → (x ≡ 0 → ⊥) → cond b 0 x ≡ 0 → b ≡ true
-first true x d h = refl
-first false x d h = absurd (d h)
 
 two : _≡_ {A = ℕ} 2 0 → ⊥
 two z = omega arith
@@ -100,10 +84,10 @@ sized s h = go (length s) (entriesOf s) refl refl h
   where
     go : (l n : ℕ) → length s ≡ l → entriesOf s ≡ n → sizeRefusal l n ≡ 0 → Sized s
     go l n p q h =
-        let a = second (ltb l 2) 2 _ two h in
-        let b = second (ltb n 1) 2 _ two (a .1) in
-        let c = second (ltb 64 n) 2 _ two (b .1) in
-        let d = eqb-true l (2 + 13 * n) (first (eqb l (2 + 13 * n)) 2 two (c .1)) in
+        let a = not-taken (ltb l 2) two h in
+        let b = not-taken (ltb n 1) two (a .1) in
+        let c = not-taken (ltb 64 n) two (b .1) in
+        let d = eqb-true l (2 + 13 * n) (taken (eqb l (2 + 13 * n)) two (c .1)) in
         record {
           some = rw q (ltb-false n 1 (b .0));
           most = rw q (ltb-false 64 n (c .0));
@@ -139,7 +123,7 @@ found s e h =
     record {
       sheet = p .0;
       size = check-size s (p .0);
-      entry = ltb-true e (entriesOf s) (first (ltb e (entriesOf s)) 5 five (p .1));
+      entry = ltb-true e (entriesOf s) (taken (ltb e (entriesOf s)) five (p .1));
     }
 
 -- the twelve bytes from a place on, as the code takes them
@@ -149,26 +133,22 @@ part s at = take (at + 12 - at) (drop at s)
 pub twelve : (at : ℕ) (s : List ℕ) → part s at ≡ take 12 (drop at s)
 twelve at s = let e : at + 12 - at ≡ 12 = omega arith in rw e refl
 
--- where a found setting lies
-pub record Placed (s : List ℕ) (n e : ℕ) : Type 0 where
-  pub entries : n ≤ 64
-  pub entry : e < 64
-  pub inside : 2 + n + 12 * e + 12 ≤ length s
+pub the-setting : (s : List ℕ) (n e : ℕ) → n ≡ entriesOf s → part s (2 + n + 12 * e) ≡ settingAt s e
+the-setting s n e q = rw (twelve, q) refl
 
+-- a lookup, by its steps
 module _ (s : List ℕ) (e : ℕ) {number : ℕ} (p : number ≡ checkEntryOf s e) where
   pub no-part : (number ≡ 0 → ⊥) → [] ≡ lookupOf s e
   no-part z = rw (← p, ne-eqb number 0 z) refl
 
-  pub placed : (n : ℕ) → number ≡ 0 → n ≡ entriesOf s → Placed s n e
-  placed n z q =
-      let f = found s e (sym p ∙ z) in
-      let a = f .size .most in
-      let b = f .size .long in
-      let d = f .entry in
-      record { entries = omega arith; entry = omega arith; inside = omega arith }
+  pub the-part : {r : List ℕ} → number ≡ 0 → r ≡ settingAt s e → r ≡ lookupOf s e
+  the-part z q = rw (← p, eq-eqb number 0 z) q
 
-  pub the-part : (n : ℕ) → number ≡ 0 → n ≡ entriesOf s → part s (2 + n + 12 * e) ≡ lookupOf s e
-  the-part n z q = rw (← p, eq-eqb number 0 z, twelve, q) refl
+  pub found-size : number ≡ 0 → Sized s
+  found-size z = found s e (sym p ∙ z) .size
+
+  pub found-entry : {n : ℕ} → number ≡ 0 → n ≡ entriesOf s → e < n
+  found-entry {n} z q = let h = found s e (sym p ∙ z) .entry in omega arith
 
 -- ---- an entry
 
@@ -177,10 +157,9 @@ pub entry-made : (k : ℕ) (t : List ℕ) {a b c : ℕ} → a ≡ wordFrom t 0 �
 entry-made k t x y z = λ i. record { kind = k; a = x i; b = y i; c = z i }
 
 -- the refusal of an entry, from its bytes
-pub refused-at : (s : List ℕ) (n e : ℕ) {k r : ℕ} {t : Entry} → n ≡ entriesOf s → k ≡ kindAt s e → t ≡ entryOf k (part s (2 + n + 12 * e))
-    → r ≡ entryRefusal t → r ≡ refusalAt s e
-refused-at s n e {k} {r} {t} p q g h =
-    let w : t ≡ entryIn s e = g ∙ rw (twelve, p, q) refl in
+pub refused-at : (s : List ℕ) (e : ℕ) {k r : ℕ} {x : List ℕ} {t : Entry} → k ≡ kindAt s e → x ≡ settingAt s e → t ≡ entryOf k x → r ≡ entryRefusal t → r ≡ refusalAt s e
+refused-at s e {k} {r} {x} {t} q y g h =
+    let w : t ≡ entryIn s e = g ∙ rw (q, y) refl in
     h ∙ ap entryRefusal w
 
-pub ruleset checks = (none-then, some-then, first-start, first-again, first-found, first-none, size-refused, size-accepted, checked, no-part, the-part, entry-made, refused-at, needs)
+pub ruleset checks = (none-then, some-then, first-start, first-again, first-found, first-none, size-refused, size-accepted, checked, the-setting, no-part, the-part, found-size, found-entry, entry-made, refused-at, needs)

@@ -1,3 +1,6 @@
 pub mod KindBytes
 pub mod Checks
+pub mod KindRows
+pub mod EntryRows
 pub mod Rows
+pub mod Returns

@@ -5,15 +5,11 @@ use lib.Dec.{eqb, ltb}
 use Rattle.filter_core.specs.Arithmetic.{word}
 use Rattle.filter_core.specs.Refusal.{frequencyRefusal}
 use Rattle.words.specs.Word.{otherNan}
+use Rattle.words.specs.Rows.{_then_}
 use Rattle.sheets.specs.Kind.{setterOf, kindRefusal}
 use Rattle.sheets.specs.declared.entry.Entry.{Entry}
 use Rattle.sheets.specs.declared.setter.Setter.{Setter}
 use Rattle.sheets.specs.declared.setter.Setter.the-variants.{DcBlocker, OnePole, SvfFrequency, SvfCoefficients, NaiveSvf, ModifiedSvf, CrossoverSvf, Unknown}
-
--- the first refusal of two
-infixr 20 _then_
-abbrev pub _then_ : ℕ → ℕ → ℕ
-_then_ a b = cond (eqb a 0) b a
 
 -- the first refusal of f 0, f 1, .., f (n - 1)
 unfoldable pub firstRefusal : ℕ → (ℕ → ℕ) → ℕ

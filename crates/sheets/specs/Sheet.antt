@@ -6,7 +6,8 @@ use mathlib.Core.List.{List, []}
 use lib.Dec.{eqb, leb, ltb}
 use lib.ListN.{length, getD, take, drop}
 use Rattle.words.specs.Word.{wordFrom}
-use Rattle.sheets.specs.Refusal.{_then_, firstRefusal, entryRefusal}
+use Rattle.words.specs.Rows.{_then_}
+use Rattle.sheets.specs.Refusal.{firstRefusal, entryRefusal}
 use Rattle.sheets.specs.declared.entry.Entry.{Entry}
 
 abbrev pub entriesOf : List ℕ → ℕ

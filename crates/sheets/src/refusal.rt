@@ -6,20 +6,13 @@ ghost use lib.ListN.{length};
 ghost use Rattle.filter_core.specs.Arithmetic.{word};
 ghost use Rattle.filter_core.specs.Refusal.{frequencyRefusal};
 ghost use Rattle.sheets.specs.Kind.{kindRefusal};
-ghost use Rattle.sheets.specs.Refusal.{_then_, firstRefusal, used, wordRefusal, wordsRefusal, settingRefusal, entryRefusal};
-ghost use Rattle.sheets.specs.Sheet.{entriesOf, Sized, sizeRefusal, refusalAt, checkOf, entryNumberRefusal, checkEntryOf, lookupOf};
+ghost use Rattle.sheets.specs.Refusal.{firstRefusal, used, wordRefusal, wordsRefusal, settingRefusal, entryRefusal};
+ghost use Rattle.sheets.specs.Sheet.{entriesOf, settingAt, Sized, sizeRefusal, refusalAt, checkOf, entryNumberRefusal, checkEntryOf, lookupOf};
 use crate::entry::Entry;
 use crate::entry::entry_of;
 use crate::setter::Setter;
 use crate::setter::setter_of;
 use filter_core::FrequencyApproximation;
-
-// The first refusal of two; 0 is none.
-fn then(a: u8, b: u8) -> u8
-    ensures { λ r. ⌜ r ≡ (a then b) ⌝ }
-{
-    if a == 0 { b } else { a }
-}
 
 fn kind_refusal(setter: Setter) -> u8
     ensures { λ r. ⌜ r ≡ kindRefusal setter ⌝ }
@@ -94,7 +87,7 @@ fn words_refusal(used: u8, entry: Entry) -> u8
     let first = word_refusal(used, 0, entry.a);
     let second = word_refusal(used, 1, entry.b);
     let third = word_refusal(used, 2, entry.c);
-    then(first, then(second, third))
+    words::then(first, words::then(second, third))
 }
 
 fn entry_refusal(entry: Entry) -> u8
@@ -104,7 +97,7 @@ fn entry_refusal(entry: Entry) -> u8
     let kind = kind_refusal(setter);
     let words = words_refusal(words_used(setter), entry);
     let setting = setting_refusal(setter, entry.a);
-    then(kind, then(words, setting))
+    words::then(kind, words::then(words, setting))
 }
 
 fn wide(b: u8) -> usize
@@ -135,12 +128,19 @@ fn size_refusal(length: usize, n: usize) -> u8
     if length == 2 + 13 * n { 0 } else { 2 }
 }
 
+fn setting_at(sheet: &[u8], n: usize, e: usize) -> &[u8]
+    requires { ⌜ Sized (now sheet) × (n ≡ entriesOf (now sheet)) × (e < n) ⌝ }
+    ensures { λ r. ⌜ now r ≡ settingAt (now (sheet .entry)) e ⌝ }
+{
+    let at = 2 + n + 12 * e;
+    &sheet[at..at + 12]
+}
+
 fn refusal_at(sheet: &[u8], n: usize, e: usize) -> u8
     requires { ⌜ Sized (now sheet) × (n ≡ entriesOf (now sheet)) × (e < n) ⌝ }
     ensures { λ r. ⌜ r ≡ refusalAt (now (sheet .entry)) e ⌝ }
 {
-    let at = 2 + n + 12 * e;
-    entry_refusal(entry_of(words::byte_at(sheet, 2, e), &sheet[at..at + 12]))
+    entry_refusal(entry_of(words::byte_at(sheet, 2, e), setting_at(sheet, n, e)))
 }
 
 fn entries_refusal(sheet: &[u8], n: usize) -> u8
@@ -180,7 +180,7 @@ fn number_refusal(n: usize, e: usize) -> u8
 pub fn check_entry(sheet: &[u8], e: usize) -> u8
     ensures { λ r. ⌜ r ≡ checkEntryOf (now (sheet .entry)) e ⌝ }
 {
-    then(check(sheet), number_refusal(entries(sheet), e))
+    words::then(check(sheet), number_refusal(entries(sheet), e))
 }
 
 // The setting of entry e as a part of the sheet; empty where `check_entry` refuses.
@@ -190,6 +190,5 @@ pub fn lookup(sheet: &[u8], e: usize) -> &[u8]
     if check_entry(sheet, e) != 0 {
         return &sheet[0..0];
     }
-    let at = 2 + entries(sheet) + 12 * e;
-    &sheet[at..at + 12]
+    setting_at(sheet, entries(sheet), e)
 }

@@ -1,4 +1,4 @@
-use Rattle.sheets.proofs.Rows.{words-return}
+use Rattle.sheets.proofs.Returns.{words-return}
 use Rattle.sheets.proofs.words_return.Statement.{statement}
 use Rattle.sheets.proofs.words_return.Tie as tie
 

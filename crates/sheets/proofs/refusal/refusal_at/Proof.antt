@@ -4,16 +4,4 @@ use Rattle.sheets.proofs.refusal.refusal_at.Tie as tie
 
 pub refusal-at-spec : {M : Type 1} → statement M
 refusal-at-spec =
-    tie.close
-    (tie.spec
-    (λ c. search checks)
-    (λ c. search checks)
-    (λ c. search checks)
-    (λ c κs. search checks)
-    (λ c. search checks)
-    (λ c. search checks)
-    (λ c. search checks)
-    (λ c. search checks)
-    (λ c κs. search checks)
-    (λ c κs. search checks)
-    (λ c. search checks))
+    tie.close (tie.spec (λ c κs. search checks) (λ c κs. search checks) (λ c κs. search checks) (λ c κs. search checks) (λ c. search checks))

@@ -1,6 +1,6 @@
 use borrow.Author.Tests.{eq-eqb, ne-eqb}
-use Rattle.sheets.proofs.refusal.then.Statement.{statement}
-use Rattle.sheets.proofs.refusal.then.Tie as tie
+use Rattle.words.proofs.refusal.then.Statement.{statement}
+use Rattle.words.proofs.refusal.then.Tie as tie
 
 returns : tie.Need-returns
 returns c = rw (eq-eqb _ _ (c .if1 .taken))

@@ -1,0 +1,16 @@
+use Rattle.sheets.proofs.Checks.{checks}
+use Rattle.sheets.proofs.refusal.setting_at.Statement.{statement}
+use Rattle.sheets.proofs.refusal.setting_at.Tie as tie
+
+pub setting-at-spec : {M : Type 1} → statement M
+setting-at-spec =
+    tie.close
+    (tie.spec
+    (λ c. search checks)
+    (λ c. search checks)
+    (λ c. search checks)
+    (λ c. search checks)
+    (λ c. search checks)
+    (λ c. search checks)
+    (λ c. search checks)
+    (λ c. search checks))
