@@ -1,4 +1,3 @@
 pub mod Passes
 pub mod Horner
 pub mod Refusals
-pub mod Rows

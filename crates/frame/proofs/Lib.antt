@@ -3,3 +3,4 @@ pub mod Tables
 pub mod Sound
 pub mod Picture
 pub mod Upholds
+pub mod Rows

@@ -14,7 +14,8 @@ use Rattle.sheets.specs.Sheet.{entriesOf, entryIn, checkOf}
 use Rattle.sheets.specs.declared.entry.Entry.{Entry}
 use Rattle.sheets.proofs.Rows.{check-sheet}
 use Rattle.library.specs.Library.{libraryOf, entryAt, writeOf}
-use Rattle.library.proofs.RoundTrip.{same-entries}
+use Rattle.library.specs.Rows.{Held, nothing, of-sheet}
+use Rattle.library.proofs.RoundTrip.{same-entries, no-sheet}
 use Rattle.any_filter.specs.Cases.{typeOf, rested}
 use Rattle.any_filter.specs.declared.FilterType.{FilterType}
 use Rattle.any_filter.specs.declared.FilterType.the-variants as type
@@ -76,9 +77,9 @@ pub record SoundHead (x : HeadHistory) : Type 0 where
   pub goods : (m : ℕ) → Good (getD (x .checkpoints) m [])
   pub four : length (x .checkpoints) ≤ 4
 
--- the entries of the sheet's library are those of the sheet, and 64 at most
+-- the library is that of a sheet, or none, and its entries are the sheet's
 pub record SoundSheet (s : List ℕ) : Type 0 where
-  pub most : entriesOf s ≤ 64
+  pub held : Held (libraryOf s) (entriesOf s)
   pub entry : (e : ℕ) → e < entriesOf s → entryAt (libraryOf s) e ≡ entryIn s e
 
 pub record Sound (H : Histories) : Type 0 where
@@ -87,9 +88,9 @@ pub record Sound (H : Histories) : Type 0 where
 
 -- ---- a history stays good
 
-nothing : Good []
+good-none : Good []
 unfolding snapshotFrom
-nothing = bare
+good-none = bare
 
 good-load : (l : List Event) (e : Entry) → Good (l ++ loadEvent e ∷ [])
 unfolding typeFrom
@@ -115,13 +116,13 @@ good-rest l n q g = good-same restEvent (λ k. refl) rested (λ f. refl) type-re
 
 goods-snoc : (r : List (List Event)) (l : List Event) → ((m : ℕ) → Good (getD r m [])) → Good l → (m : ℕ) → Good (getD (r ++ l ∷ []) m [])
 goods-snoc [] l g e zero = e
-goods-snoc [] l g e (suc m) = nothing
+goods-snoc [] l g e (suc m) = good-none
 goods-snoc (x ∷ r) l g e zero = g 0
 goods-snoc (x ∷ r) l g e (suc m) = goods-snoc r l (λ i. g (suc i)) e m
 
 goods-take : (n : ℕ) (r : List (List Event)) → ((m : ℕ) → Good (getD r m [])) → (m : ℕ) → Good (getD (take n r) m [])
-goods-take zero r g m = nothing
-goods-take (suc n) [] g m = nothing
+goods-take zero r g m = good-none
+goods-take (suc n) [] g m = good-none
 goods-take (suc n) (x ∷ r) g zero = g 0
 goods-take (suc n) (x ∷ r) g (suc m) = goods-take n r (λ i. g (suc i)) m
 
@@ -156,7 +157,7 @@ sound-grown s x (drop m) S q =
 -- ---- and each call the histories
 
 sound-open : (s : List ℕ) → checkOf s ≡ 0 → SoundSheet s
-sound-open s e = let t = same-entries s (check-sheet s e) in record { most = t .most; entry = t .entry }
+sound-open s e = record { held = of-sheet (check-sheet s e); entry = same-entries s (check-sheet s e) .entry }
 
 either : (b : Bool) (x y : HeadHistory) → SoundHead x → SoundHead y → SoundHead (cond b x y)
 either true x y S R = S
@@ -188,6 +189,6 @@ sound-all H (c ∷ cs) S = sound-all (advance H c) cs (sound-advance H c S)
 pub sound-none : Sound noHistories
 sound-none =
     record {
-      sheet = record { most = omega arith; entry = λ e l. absurd (omega arith) };
-      each = λ h. record { good = nothing; goods = λ m. nothing; four = omega arith };
+      sheet = record { held = rw no-sheet nothing; entry = λ e l. absurd (omega arith) };
+      each = λ h. record { good = good-none; goods = λ m. good-none; four = omega arith };
     }

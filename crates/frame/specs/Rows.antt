@@ -1,13 +1,14 @@
 -- The refusal table of document 01, row by row, for the calls of a frame: the case of each number as a statement about the histories,
 -- the call's arguments and the lengths of its buffers.
-use Prim.Native.Nat.{ℕ, _+_, _*_, _≤_, _<_}
+use Prim.Native.Nat.{ℕ, _≤_}
 use mathlib.Core.Path.{_≡_}
 use mathlib.Core.List.{List, [], _∷_}
 use lib.ListN.{length}
 use lib.Ieee.{Float}
-use Rattle.filter_core.specs.Rows.{Exactly}
+use Rattle.words.specs.Rows.{Only, Exactly}
 use Rattle.sheets.specs.Sheet.{entriesOf}
 use Rattle.sheets.specs.Rows.{SheetRow}
+use Rattle.library.specs.Rows.{WriteCase}
 use Rattle.runs.specs.Rows.{Has, HasTwo, StepOfZero}
 use Rattle.runs.specs.declared.RunForm.{RunForm}
 use Rattle.frame.specs.Call.{Act, load, run, runTwo, rest, mark, back, drop, Call, opening, writing, at}
@@ -46,14 +47,10 @@ order mark = 1 ∷ 6 ∷ 8 ∷ []
 order (back m) = 1 ∷ 7 ∷ []
 order (drop m) = 1 ∷ 7 ∷ []
 
--- of a write: no library, or an output that is too short
-pub data WriteCase (s out : List ℕ) : ℕ → Type 0 where
-  no-library : entriesOf s ≡ 0 → WriteCase s out 2
-  short : length out < 2 + 13 * entriesOf s → WriteCase s out 12
-
+-- A sheet and a write have rows of their own, below the frame.
 abbrev pub Row : Histories → Call → ℕ → Type 0
-Row H (opening s) n = SheetRow s n
-Row H (writing out) n = Exactly (WriteCase (H .sheet) out) (2 ∷ 12 ∷ []) n
+Row H (opening s) n = Only (SheetRow s) n
+Row H (writing out) n = Exactly (WriteCase (entriesOf (H .sheet)) (length out)) (2 ∷ 12 ∷ []) n
 Row H (at h a) n = Exactly (ActCase (H .sheet) h (H .heads h) a) (order a) n
 
 -- after any calls on a fresh frame, a call's number is that of its row
