@@ -56,7 +56,7 @@ holding x s = record { now = s; marks = x .marks; marked = x .marked }
 abbrev pub holds : Filter → Snapshot
 holds f = record { slot = Holds f }
 
--- the head r and the outputs after a run of the filter f in the head x
+-- the head r and the outputs after an accepted run of the filter f in the head x
 
 pub record HeadRan (x : Head) (f : Filter) (form : RunForm) (us ys : List Float) (r : Head) (ys′ : List Float) : Type 0 where
   pub head-is : r ≡ holding x (holds (through f form (within us ys)))
@@ -168,6 +168,16 @@ withNumber n f = record { number = n; frame = f }
 
 abbrev pub noMark : ℕ → Frame → Marked
 noMark n f = record { number = n; mark = 0; frame = f }
+
+-- the accepted run of the filter p in the head x, which stands at the place h
+pub record Sewn (f : Frame) (h : ℕ) (x : Head) (p : Filter) (form : RunForm) (us ys : List Float) (r : Answer) (ys′ : List Float) : Type 0 where
+  pub answer-is : r ≡ withNumber 0 (withHead f h (holding x (holds (through p form (within us ys)))))
+  pub output-is : ys′ ≡ firstOutput p form (within us ys) ys
+
+pub record SewnTwo (f : Frame) (h : ℕ) (x : Head) (p : Filter) (form : RunForm) (us ys zs : List Float) (r : Answer) (ys′ zs′ : List Float) : Type 0 where
+  pub answer-is : r ≡ withNumber 0 (withHead f h (holding x (holds (through p form (within (within us ys) zs)))))
+  pub first-is : ys′ ≡ firstOutput p form (within (within us ys) zs) ys
+  pub second-is : zs′ ≡ secondOutput p form (within (within us ys) zs) zs
 
 abbrev pub plainly : Answer → Done
 plainly a = record { reply = answered (a .number); frame = a .frame }

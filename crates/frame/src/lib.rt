@@ -2,13 +2,25 @@
 // Each call takes the frame by value and hands it back in its answer. A refused call hands it back as it was.
 
 use any_filter::Filter;
+
+mod one_head;
+
 use library::Library;
+use one_head::after_run;
+use one_head::after_run_two;
+use one_head::back_head;
+use one_head::drop_head;
+use one_head::empty_head;
+use one_head::held_by;
+use one_head::holding;
+use one_head::marked_head;
 use runs::RunForm;
 ghost use mathlib.Core.Path.{_≡_};
+ghost use Prim.Native.Nat.{_≤_};
 ghost use Rattle.any_filter.specs.Cases.{typeOf};
 ghost use Rattle.runs.specs.Form.{runRefusal, runTwoRefusal};
 ghost use Rattle.frame.specs.Call.{load, run, runTwo, rest, mark, back, drop, opening, writing, at};
-ghost use Rattle.frame.specs.Calls.{emptySnapshot, onlyIf, marksBelow, holding, holds, HeadRan, HeadRanTwo, withNumber, noMark, freshFrame, perform, plainly, withOutput, withOutputs, withMark, withBytes, showOf};
+ghost use Rattle.frame.specs.Calls.{headAt, withHead, withLibrary, withNumber, noMark, Sewn, SewnTwo, freshFrame, perform, plainly, withOutput, withOutputs, withMark, withBytes, showOf};
 ghost use Rattle.frame.specs.Rows.{NumbersByRows};
 ghost use Rattle.frame.specs.Demand.{Demand3};
 
@@ -60,80 +72,31 @@ pub struct Shown {
     pub frame: Frame,
 }
 
-fn empty_snapshot() -> Snapshot
-    ensures { λ r. ⌜ r ≡ emptySnapshot ⌝ }
+// ---- a frame's parts
+
+fn head_at(frame: Frame, head: usize) -> Head
+    requires { ⌜ head ≤ 11 ⌝ }
+    ensures { λ r. ⌜ r ≡ headAt frame head ⌝ }
 {
-    Snapshot { slot: Slot::Empty }
+    frame.heads[head]
 }
 
-fn only_if(on: bool, snapshot: Snapshot) -> Snapshot
-    ensures { λ r. ⌜ r ≡ onlyIf on snapshot ⌝ }
+fn with_head(mut frame: Frame, head: usize, now: Head) -> Frame
+    requires { ⌜ head ≤ 11 ⌝ }
+    ensures { λ r. ⌜ r ≡ withHead frame head now ⌝ }
 {
-    if on { snapshot } else { empty_snapshot() }
+    frame.heads[head] = now;
+    frame
 }
 
-// The marks below k. Those above become empty, so that a head is one value.
-fn marks_below(k: usize, marks: [Snapshot; 4]) -> [Snapshot; 4]
-    ensures { λ r. ⌜ r ≡ marksBelow k marks ⌝ }
+fn with_library(mut frame: Frame, library: Library) -> Frame
+    ensures { λ r. ⌜ r ≡ withLibrary frame library ⌝ }
 {
-    let a = only_if(0 < k, marks[0]);
-    let b = only_if(1 < k, marks[1]);
-    let c = only_if(2 < k, marks[2]);
-    let d = only_if(3 < k, marks[3]);
-    [a, b, c, d]
+    frame.library = library;
+    frame
 }
 
-// The head with something else in it. Its marks stay.
-fn holding(head: Head, now: Snapshot) -> Head
-    ensures { λ r. ⌜ r ≡ holding head now ⌝ }
-{
-    let marks = head.marks;
-    Head {
-        now: now,
-        marks: marks,
-        marked: head.marked,
-    }
-}
-
-fn held_by(head: Head) -> Slot
-    ensures { λ r. ⌜ r ≡ head .now .slot ⌝ }
-{
-    let now = head.now;
-    now.slot
-}
-
-fn holds(filter: Filter) -> Snapshot
-    ensures { λ r. ⌜ r ≡ holds filter ⌝ }
-{
-    Snapshot {
-        slot: Slot::Holds(filter),
-    }
-}
-
-// The head after a run that is not refused.
-fn after_run(head: Head, filter: Filter, form: RunForm, input: &[f32], output: &mut [f32]) -> Head
-    requires { ⌜ runRefusal (typeOf filter) form ≡ 0 ⌝ }
-    ensures { λ r. ⌜ HeadRan head filter form (now (input .entry)) (now (output .entry)) r (now (output .exit)) ⌝ }
-{
-    holding(head, holds(runs::run(filter, form, input, output)))
-}
-
-fn after_run_two(
-    head: Head,
-    filter: Filter,
-    form: RunForm,
-    input: &[f32],
-    first: &mut [f32],
-    second: &mut [f32],
-) -> Head
-    requires { ⌜ runTwoRefusal (typeOf filter) form ≡ 0 ⌝ }
-    ensures { λ r. ⌜ HeadRanTwo head filter form (now (input .entry)) (now (first .entry)) (now (second .entry)) r (now (first .exit)) (now (second .exit)) ⌝ }
-{
-    holding(
-        head,
-        holds(runs::run_two(filter, form, input, first, second)),
-    )
-}
+// ---- a call's answer
 
 fn refused(frame: Frame, number: u8) -> Answer
     ensures { λ r. ⌜ r ≡ withNumber number frame ⌝ }
@@ -153,6 +116,40 @@ fn accepted(frame: Frame) -> Answer
     }
 }
 
+// The accepted run of a filter that stands in the head h.
+fn sewn(
+    frame: Frame,
+    head: usize,
+    h: Head,
+    filter: Filter,
+    form: RunForm,
+    input: &[f32],
+    output: &mut [f32],
+) -> Answer
+    requires { ⌜ (head ≤ 11) × (runRefusal (typeOf filter) form ≡ 0) ⌝ }
+    ensures { λ r. ⌜ Sewn frame head h filter form (now (input .entry)) (now (output .entry)) r (now (output .exit)) ⌝ }
+{
+    let after = after_run(h, filter, form, input, output);
+    accepted(with_head(frame, head, after))
+}
+
+fn sewn_two(
+    frame: Frame,
+    head: usize,
+    h: Head,
+    filter: Filter,
+    form: RunForm,
+    input: &[f32],
+    first: &mut [f32],
+    second: &mut [f32],
+) -> Answer
+    requires { ⌜ (head ≤ 11) × (runTwoRefusal (typeOf filter) form ≡ 0) ⌝ }
+    ensures { λ r. ⌜ SewnTwo frame head h filter form (now (input .entry)) (now (first .entry)) (now (second .entry)) r (now (first .exit)) (now (second .exit)) ⌝ }
+{
+    let after = after_run_two(h, filter, form, input, first, second);
+    accepted(with_head(frame, head, after))
+}
+
 fn no_mark(frame: Frame, number: u8) -> Marked
     ensures { λ r. ⌜ r ≡ noMark number frame ⌝ }
 {
@@ -168,20 +165,14 @@ impl Frame {
     pub fn fresh() -> Frame
         ensures { λ r. ⌜ r ≡ freshFrame ⌝ }
     {
-        let s = Snapshot { slot: Slot::Empty };
-        let h = Head {
-            now: s,
-            marks: [s; 4],
-            marked: 0,
-        };
         Frame {
-            heads: [h; 12],
+            heads: [empty_head(); 12],
             library: library::none(),
         }
     }
 
     // Takes a sheet as the library.
-    pub fn open(mut self, sheet: &[u8]) -> Answer
+    pub fn open(self, sheet: &[u8]) -> Answer
         ensures { λ r. ⌜ plainly r ≡ perform self (opening (now (sheet .entry))) ⌝ }
     {
         let reading = library::read(sheet);
@@ -189,12 +180,11 @@ impl Frame {
             return refused(self, reading.number);
         }
         let library = reading.library;
-        self.library = library;
-        accepted(self)
+        accepted(with_library(self, library))
     }
 
     // Puts the filter of an entry into a head. The settings are copied; the marks stay.
-    pub fn load(mut self, head: usize, entry: usize) -> Answer
+    pub fn load(self, head: usize, entry: usize) -> Answer
         ensures { λ r. ⌜ plainly r ≡ perform self (at head (load entry)) ⌝ }
     {
         if 11 < head {
@@ -206,19 +196,18 @@ impl Frame {
             return refused(self, 5);
         }
         let filter = loads::filter_of(library::entry_at(library, entry));
-        let h = self.heads[head];
-        self.heads[head] = holding(h, holds(filter));
-        accepted(self)
+        let h = holding(head_at(self, head), filter);
+        accepted(with_head(self, head, h))
     }
 
     // Runs a form with one output.
-    pub fn run(mut self, head: usize, form: RunForm, input: &[f32], output: &mut [f32]) -> Answer
+    pub fn run(self, head: usize, form: RunForm, input: &[f32], output: &mut [f32]) -> Answer
         ensures { λ r. ⌜ withOutput r (now (output .exit)) ≡ perform self (at head (run form (now (input .entry)) (now (output .entry)))) ⌝ }
     {
         if 11 < head {
             return refused(self, 1);
         }
-        let h = self.heads[head];
+        let h = head_at(self, head);
         let slot = held_by(h);
         let Slot::Holds(filter) = slot else {
             return refused(self, 6);
@@ -227,13 +216,12 @@ impl Frame {
         if number != 0 {
             return refused(self, number);
         }
-        self.heads[head] = after_run(h, filter, form, input, output);
-        accepted(self)
+        sewn(self, head, h, filter, form, input, output)
     }
 
     // Runs a form with two outputs.
     pub fn run_two(
-        mut self,
+        self,
         head: usize,
         form: RunForm,
         input: &[f32],
@@ -245,7 +233,7 @@ impl Frame {
         if 11 < head {
             return refused(self, 1);
         }
-        let h = self.heads[head];
+        let h = head_at(self, head);
         let slot = held_by(h);
         let Slot::Holds(filter) = slot else {
             return refused(self, 6);
@@ -254,36 +242,34 @@ impl Frame {
         if number != 0 {
             return refused(self, number);
         }
-        self.heads[head] = after_run_two(h, filter, form, input, first, second);
-        accepted(self)
+        sewn_two(self, head, h, filter, form, input, first, second)
     }
 
     // Clears what a head's filter retains of past samples.
-    pub fn rest(mut self, head: usize) -> Answer
+    pub fn rest(self, head: usize) -> Answer
         ensures { λ r. ⌜ plainly r ≡ perform self (at head rest) ⌝ }
     {
         if 11 < head {
             return refused(self, 1);
         }
-        let h = self.heads[head];
+        let h = head_at(self, head);
         let slot = held_by(h);
         let Slot::Holds(filter) = slot else {
             return refused(self, 6);
         };
-        self.heads[head] = holding(h, holds(filter.rest()));
-        accepted(self)
+        let after = holding(h, filter.rest());
+        accepted(with_head(self, head, after))
     }
 
     // Records a head, and answers the mark's number.
-    pub fn mark(mut self, head: usize) -> Marked
+    pub fn mark(self, head: usize) -> Marked
         ensures { λ r. ⌜ withMark r ≡ perform self (at head mark) ⌝ }
     {
         if 11 < head {
             return no_mark(self, 1);
         }
-        let h = self.heads[head];
-        let held = h.now;
-        let slot = held.slot;
+        let h = head_at(self, head);
+        let slot = held_by(h);
         let Slot::Holds(_) = slot else {
             return no_mark(self, 6);
         };
@@ -291,66 +277,45 @@ impl Frame {
         if 3 < at {
             return no_mark(self, 8);
         }
-        let mut marks = h.marks;
-        marks[at] = held;
-        self.heads[head] = Head {
-            now: held,
-            marks: marks,
-            marked: at + 1,
-        };
         Marked {
             number: 0,
             mark: at,
-            frame: self,
+            frame: with_head(self, head, marked_head(h)),
         }
     }
 
     // Restores mark m, keeps it, and drops those above.
-    pub fn back(mut self, head: usize, m: usize) -> Answer
+    pub fn back(self, head: usize, m: usize) -> Answer
         ensures { λ r. ⌜ plainly r ≡ perform self (at head (back m)) ⌝ }
     {
         if 11 < head {
             return refused(self, 1);
         }
-        let h = self.heads[head];
+        let h = head_at(self, head);
         if h.marked <= m {
             return refused(self, 7);
         }
         if 3 < m {
             return refused(self, 7);
         }
-        let marks = h.marks;
-        let old = marks[m];
-        self.heads[head] = Head {
-            now: old,
-            marks: marks_below(m + 1, marks),
-            marked: m + 1,
-        };
-        accepted(self)
+        accepted(with_head(self, head, back_head(h, m)))
     }
 
     // Drops mark m and those above. The filter stays.
-    pub fn drop(mut self, head: usize, m: usize) -> Answer
+    pub fn drop(self, head: usize, m: usize) -> Answer
         ensures { λ r. ⌜ plainly r ≡ perform self (at head (drop m)) ⌝ }
     {
         if 11 < head {
             return refused(self, 1);
         }
-        let h = self.heads[head];
+        let h = head_at(self, head);
         if h.marked <= m {
             return refused(self, 7);
         }
         if 3 < m {
             return refused(self, 7);
         }
-        let held = h.now;
-        let marks = h.marks;
-        self.heads[head] = Head {
-            now: held,
-            marks: marks_below(m, marks),
-            marked: m,
-        };
-        accepted(self)
+        accepted(with_head(self, head, drop_head(h, m)))
     }
 
     // Writes the library as a sheet.
@@ -371,18 +336,13 @@ impl Frame {
         ensures { λ r. ⌜ r ≡ showOf self head ⌝ }
     {
         if 11 < head {
-            let s = Snapshot { slot: Slot::Empty };
             return Shown {
                 number: 1,
-                head: Head {
-                    now: s,
-                    marks: [s; 4],
-                    marked: 0,
-                },
+                head: empty_head(),
                 frame: self,
             };
         }
-        let h = self.heads[head];
+        let h = head_at(self, head);
         Shown {
             number: 0,
             head: h,

@@ -10,4 +10,5 @@ open-spec =
     (λ c κs. search turns)
     (λ c. search turns)
     (λ c κs. search turns)
+    (λ c κs. search turns)
     (λ c. search turns))

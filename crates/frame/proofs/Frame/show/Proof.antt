@@ -6,7 +6,7 @@ pub show-spec : {M : Type 1} → statement M
 show-spec =
     tie.close
     (tie.spec
+    (λ c κs. search turns)
     (λ c. search turns)
-    (λ c. search turns)
-    (λ c. search turns)
+    (λ c κs. search turns)
     (λ c. search turns))

@@ -1,9 +1,9 @@
 use Rattle.frame.proofs.Turns.{turns}
-use Rattle.frame.proofs.after_run_two.Statement.{statement}
-use Rattle.frame.proofs.after_run_two.Tie as tie
+use Rattle.frame.proofs.sewn_two.Statement.{statement}
+use Rattle.frame.proofs.sewn_two.Tie as tie
 
-pub after-run-two-spec : {M : Type 1} → statement M
-after-run-two-spec =
+pub sewn-two-spec : {M : Type 1} → statement M
+sewn-two-spec =
     tie.close
     (tie.spec
     (λ c κs. search turns)

@@ -1,8 +1,8 @@
 use mathlib.Core.Path.{refl}
 use Rattle.frame.specs.Table.{table}
 use borrow.Author.Needs.{needs}
-use Rattle.frame.proofs.marks_below.Statement.{statement}
-use Rattle.frame.proofs.marks_below.Tie as tie
+use Rattle.frame.proofs.one_head.marks_below.Statement.{statement}
+use Rattle.frame.proofs.one_head.marks_below.Tie as tie
 
 returns : tie.Need-returns
 unfolding table
