@@ -1,13 +1,13 @@
 -- An entry of a library. Assumes nothing.
 use Prim.Native.Nat.{ℕ, _+_, _*_, _-_, _≤_, _<_}
-use mathlib.Core.Path.{_≡_, refl, sym, ap, _∙_}
+use mathlib.Core.Path.{_≡_, refl, _∙_}
 use mathlib.Core.List.{List, [], map}
 use native.Mathlib.Omega.{arith}
 use borrow.Author.Needs.{needs, length-unmapped}
 use lib.ListN.{length, getD, take, drop, drop-of-length-le, List·getD-eq-default}
 use Rattle.sheets.specs.Sheet.{entryOf}
 use Rattle.sheets.specs.declared.entry.Entry.{Entry}
-use Rattle.library.specs.Library.{settingIn, entryAt}
+use Rattle.library.specs.Library.{entryAt}
 use Rattle.library.specs.declared.Library.{Library}
 
 pub setting-room : (l : List ℕ) (e : ℕ) → length (map (λ (v : ℕ). v) l) ≡ 768 → e ≤ 63 → 12 * e + 12 ≤ length l

@@ -1,22 +1,19 @@
 -- A sheet and its library come back from each other. Assumes nothing.
-use Prim.Native.Nat.{ℕ, zero, suc, _+_, _*_, _-_, _%_, _/_, _≤_, _<_}
+use Prim.Native.Nat.{ℕ, zero, suc, _+_, _*_, _%_, _/_, _≤_, _<_}
 use mathlib.Core.Path.{_≡_, refl, sym, ap, _∙_}
 use mathlib.Core.List.{List, [], _∷_, _++_}
 use native.Mathlib.Omega.{arith}
 use borrow.Author.Tests.{ne-eqb}
 use lib.ListN.{length, getD, take, drop, length-take, length-drop, take-append-drop}
 use lib.Seq.{take-all, take-length, take-take, take-append-seam, drop-drop, getD-take, getD-drop}
-use Rattle.words.specs.Over.{over}
 use Rattle.words.proofs.Copies.{over-none, over-all, over-front}
-use Rattle.sheets.specs.Sheet.{entriesOf, Sized, kindAt, settingAt, entryIn, checkOf}
+use Rattle.sheets.specs.Sheet.{entriesOf, Sized, kindAt, settingAt, entryIn}
 use Rattle.sheets.specs.Rows.{Sheet}
 use Rattle.sheets.proofs.Rows.{sheet-check}
-use Rattle.library.specs.Library.{zeroBytes, none, libraryOf, readOf, bytesOf, settingIn, entryAt, writeRefusal, writeOf, writtenOf}
-use Rattle.library.specs.RoundTrip.{Rewritten, ReadWrite, WriteRead, RefusedWrite, OneSheet, Same, SameEntries}
-use Rattle.library.specs.declared.Written.{Written}
-use Rattle.library.specs.declared.Reading.{Reading}
+use Rattle.library.specs.Library.{zeroBytes, none, libraryOf, readOf, bytesOf, settingIn, entryAt, writeRefusal, writtenOf}
+use Rattle.library.specs.RoundTrip.{Rewritten, RefusedWrite, OneSheet, SameEntries}
 use Rattle.library.proofs.Zeros.{length-zero-bytes}
-use Rattle.library.proofs.Rows.{write-accepted}
+use Rattle.library.proofs.Rows.{write-fits}
 
 -- ---- lists
 
@@ -71,7 +68,7 @@ module _ (s : List ℕ) (h : Sheet s) where
   accepted : (out : List ℕ) → length s ≤ length out → writeRefusal (entriesOf s) (length out) ≡ 0
   accepted out r =
       let l = h .size .long in
-      write-accepted (entriesOf s) (length out) (h .size .most) (h .size .some) (omega arith)
+      sym (write-fits (entriesOf s) (length out) (h .size .some) (h .size .most) (omega arith))
 
   pub rewritten : (out : List ℕ) → length s ≤ length out → Rewritten s out
   rewritten out r =

@@ -1,14 +1,14 @@
 -- Writing a library. Assumes nothing.
-use Prim.Native.Nat.{ℕ, zero, suc, _+_, _*_, _-_, _%_, _/_, _≤_, _<_}
+use Prim.Native.Nat.{ℕ, _+_, _*_, _%_, _/_, _≤_, _<_}
 use mathlib.Core.Path.{_≡_, refl, sym, ap, _∙_}
 use mathlib.Core.Bool.{Bool, true, false}
-use mathlib.Core.List.{List, [], _∷_, _++_, map}
+use mathlib.Core.List.{List, [], _∷_, map}
 use mathlib.Core.Logic.{_⊎_, inl, inr}
 use native.Mathlib.Omega.{arith}
 use borrow.Author.Needs.{needs, length-unmapped}
-use borrow.Author.Tests.{lt-ltb, le-ltb, eqb-true}
-use lib.Dec.{eqb, ltb}
-use lib.ListN.{length, getD, set, take, drop, length-append}
+use borrow.Author.Tests.{eqb-true}
+use lib.Dec.{eqb}
+use lib.ListN.{length, take, length-append}
 use lib.Seq.{length-take-le}
 use Rattle.words.specs.Over.{over}
 use Rattle.words.proofs.Copies.{over-append, over-front}
@@ -17,6 +17,7 @@ use Rattle.library.specs.Library.{zeroBytes, bytesOf, writeRefusal, writ
 use Rattle.library.specs.declared.Library.{Library}
 use Rattle.library.specs.declared.Written.{Written}
 use Rattle.library.proofs.Zeros.{length-zero-bytes}
+use Rattle.library.proofs.Rows.{write-many}
 
 -- the arrays have room for as many as 64 entries
 module _ (l : List ℕ) (n : ℕ) (h : n ≤ 64) where
@@ -54,7 +55,7 @@ few n room e z = go (below 64 n)
     go : (64 < n) ⊎ (n ≤ 64) → n ≤ 64
     go (inl a) =
         let b : 1 ≤ n = omega arith in
-        let c : _≡_ {A = ℕ} 2 0 = rw (le-ltb n, lt-ltb 64) at (sym e ∙ z) in
+        let c : _≡_ {A = ℕ} 2 0 = write-many n room b a ∙ sym e ∙ z in
         absurd (omega arith)
     go (inr a) = a
 
