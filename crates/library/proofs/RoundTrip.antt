@@ -32,7 +32,7 @@ two-first (x ∷ (y ∷ s)) h = refl
 -- ---- a sheet's parts in its library
 
 module _ (s : List ℕ) (z : Sized s) where
-  pub kinds-in : take (entriesOf s) (libraryOf s .kinds) ≡ take (entriesOf s) (drop 2 s)
+  kinds-in : take (entriesOf s) (libraryOf s .kinds) ≡ take (entriesOf s) (drop 2 s)
   kinds-in =
       let n = entriesOf s in
       let l = z .long in
@@ -41,7 +41,7 @@ module _ (s : List ℕ) (z : Sized s) where
       over-front n (take n (drop 2 s)) (zeroBytes 64) (omega arith) (omega (arith, length-zero-bytes 64))
       ∙ take-take n n (drop 2 s) (omega arith)
 
-  pub settings-in : take (12 * entriesOf s) (libraryOf s .settings) ≡ drop (2 + entriesOf s) s
+  settings-in : take (12 * entriesOf s) (libraryOf s .settings) ≡ drop (2 + entriesOf s) s
   settings-in =
       let n = entriesOf s in
       let l = z .long in
@@ -51,7 +51,7 @@ module _ (s : List ℕ) (z : Sized s) where
       ∙ take-all (12 * n) (drop (2 + n) s) (omega arith)
 
   -- the sheet of the library is the sheet
-  pub bytes-in : bytesOf (libraryOf s) ≡ s
+  bytes-in : bytesOf (libraryOf s) ≡ s
   bytes-in =
       let n = entriesOf s in
       let l = z .long in
@@ -94,19 +94,19 @@ one-sheet s t h k e = sym (bytes-in s (h .size)) ∙ ap bytesOf e ∙ bytes-in t
 -- ---- entries
 
 module _ (s : List ℕ) (h : Sheet s) (e : ℕ) (l : e < entriesOf s) where
-  pub kind-in : getD (libraryOf s .kinds) e 0 ≡ kindAt s e
+  kind-in : getD (libraryOf s .kinds) e 0 ≡ kindAt s e
   kind-in =
       let n = entriesOf s in
       sym (getD-take n (libraryOf s .kinds) e 0 l) ∙ ap (λ (x : List ℕ). getD x e 0) (kinds-in s (h .size)) ∙ getD-take n (drop 2 s) e 0 l ∙ getD-drop 2 s e 0
 
-  pub setting-in : settingIn (libraryOf s) e ≡ settingAt s e
+  setting-in : settingIn (libraryOf s) e ≡ settingAt s e
   setting-in =
       let n = entriesOf s in
       sym (part-of-first (12 * e) 12 (12 * n) (libraryOf s .settings) (omega arith))
       ∙ ap (λ (x : List ℕ). take 12 (drop (12 * e) x)) (settings-in s (h .size))
       ∙ ap (take 12) (drop-drop (12 * e) (2 + n) s)
 
-  pub entry-in : entryAt (libraryOf s) e ≡ entryIn s e
+  entry-in : entryAt (libraryOf s) e ≡ entryIn s e
   entry-in = rw (kind-in, setting-in) refl
 
 pub same-entries : SameEntries

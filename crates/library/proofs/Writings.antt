@@ -62,7 +62,7 @@ few n room e z = go (below 64 n)
 pub part-count : (l : List ℕ) (k : ℕ) → length l ≡ 834 → k ≤ 834 → k ≡ length (take k l)
 part-count l k e h = sym (length-take-le k l (omega arith))
 
-pub length-bytes : (l : Library) → length (l .kinds) ≡ 64 → length (l .settings) ≡ 768 → l .n ≤ 64 → length (bytesOf l) ≡ 2 + 13 * l .n
+length-bytes : (l : Library) → length (l .kinds) ≡ 64 → length (l .settings) ≡ 768 → l .n ≤ 64 → length (bytesOf l) ≡ 2 + 13 * l .n
 length-bytes l k s h =
     let a = length-append (l .n % 256 ∷ l .n / 256 ∷ take (l .n) (l .kinds)) (take (12 * l .n) (l .settings)) in
     let b = length-take-le (l .n) (l .kinds) (omega arith) in

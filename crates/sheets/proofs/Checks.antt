@@ -1,6 +1,6 @@
--- The check of a sheet: the first refusal of several, and what an accepted size tells. Assumes nothing.
+-- The check of a sheet and of a lookup, by their steps. Assumes nothing.
 use Prim.Native.Nat.{ℕ, zero, suc, _+_, _*_, _-_, _≤_, _<_}
-use mathlib.Core.Path.{_≡_, refl, sym, ap, _∙_}
+use mathlib.Core.Path.{_≡_, refl, sym, _∙_}
 use mathlib.Core.Bool.{Bool, true, false}
 use mathlib.Core.List.{List, []}
 use mathlib.Core.Logic.{_⊎_, inl, inr}
@@ -10,16 +10,9 @@ use borrow.Author.Needs.{needs}
 use borrow.Author.Tests.{eqb-true, eqb-false, eq-eqb, ne-eqb, lt-ltb, le-ltb}
 use lib.Dec.{eqb}
 use lib.ListN.{length, take, drop}
-use Rattle.filter_core.specs.Arithmetic.{word}
-use Rattle.filter_core.specs.Refusal.{frequencyRefusal}
-use Rattle.filter_core.specs.declared.FrequencyApproximation.{FrequencyApproximation}
-use Rattle.words.specs.Word.{wordFrom, otherNan}
 use Rattle.words.proofs.Rows.{then-zero, none-then, some-then, below, same}
-use Rattle.sheets.specs.Refusal.{firstRefusal, wordRefusal, settingRefusal, entryRefusal}
-use Rattle.sheets.specs.Sheet.{entriesOf, Sized, kindAt, settingAt, entryOf, entryIn, sizeRefusal, refusalAt, checkOf, entryNumberRefusal, checkEntryOf, lookupOf}
-use Rattle.sheets.specs.declared.entry.Entry.{Entry}
-use Rattle.sheets.specs.declared.setter.Setter.{Setter}
-use Rattle.sheets.specs.declared.setter.Setter.the-variants.{OnePole, SvfFrequency, NaiveSvf}
+use Rattle.sheets.specs.Refusal.{firstRefusal}
+use Rattle.sheets.specs.Sheet.{entriesOf, Sized, settingAt, sizeRefusal, refusalAt, checkOf, entryNumberRefusal, checkEntryOf, lookupOf}
 
 -- ---- the first refusal of many
 
@@ -47,33 +40,6 @@ first-all f (suc n) h = rw (first-all f n (λ e l. h e (omega arith)), h n (omeg
 
 pub first-none : (f : ℕ → ℕ) (n e : ℕ) → firstRefusal e f ≡ 0 → e ≤ n → n ≤ e → 0 ≡ firstRefusal n f
 first-none f n e p a b = let w : e ≡ n = omega arith in sym (rw w at p)
-
--- ---- a word
-
-module _ (u k w : ℕ) where
-  pub nan-refused : {r : Bool} → k < u → r ≡ otherNan w → r ≡ true → 4 ≡ wordRefusal u k w
-  nan-refused l p q = rw (lt-ltb k u l, ← p, q) refl
-
-  pub nan-accepted : {r : Bool} → k < u → r ≡ otherNan w → r ≡ false → 0 ≡ wordRefusal u k w
-  nan-accepted l p q = rw (lt-ltb k u l, ← p, q) refl
-
-  pub unused-accepted : u ≤ k → w ≡ 0 → 0 ≡ wordRefusal u k w
-  unused-accepted l e = rw (le-ltb k u l, eq-eqb w 0 e) refl
-
-  pub unused-refused : u ≤ k → (w ≡ 0 → ⊥) → 4 ≡ wordRefusal u k w
-  unused-refused l e = rw (le-ltb k u l, ne-eqb w 0 e) refl
-
--- ---- a frequency
-
-module _ (s : Setter) (p : FrequencyApproximation) (a : ℕ) {r : ℕ} (q : r ≡ frequencyRefusal (word a) p) where
-  pub one-pole-setting : s ≡ OnePole p → r ≡ settingRefusal s a
-  one-pole-setting e = rw e q
-
-  pub svf-setting : s ≡ SvfFrequency p → r ≡ settingRefusal s a
-  svf-setting e = rw e q
-
-  pub naive-setting : s ≡ NaiveSvf p → r ≡ settingRefusal s a
-  naive-setting e = rw e q
 
 -- ---- sizes
 
@@ -114,7 +80,7 @@ size-of s = go (below l 2) (below n 1) (below 64 n) (same l (2 + 13 * n))
     go (inr a) (inr b) (inr c) (inl d) = right (record { some = b; most = c; long = d }) (sym (size-fits l n a b c d))
     go (inr a) (inr b) (inr c) (inr d) = wrong (λ z. d (z .long)) (sym (size-other l n a b c d))
 
-pub sized : (s : List ℕ) → sizeRefusal (length s) (entriesOf s) ≡ 0 → Sized s
+sized : (s : List ℕ) → sizeRefusal (length s) (entriesOf s) ≡ 0 → Sized s
 sized s h = go (size-of s)
   where
     go : Size s → Sized s
@@ -138,9 +104,10 @@ module _ (s : List ℕ) (n : ℕ) {number : ℕ} (p : n ≡ entriesOf s) (q : nu
 pub check-size : (s : List ℕ) → checkOf s ≡ 0 → Sized s
 check-size s h = sized s (then-zero (sizeRefusal (length s) (entriesOf s)) (firstRefusal (entriesOf s) (refusalAt s)) h .0)
 
--- what an accepted lookup tells
+-- ---- a lookup
+
+-- what an accepted one tells
 pub record Found (s : List ℕ) (e : ℕ) : Type 0 where
-  pub sheet : checkOf s ≡ 0
   pub size : Sized s
   pub entry : e < entriesOf s
 
@@ -158,11 +125,7 @@ within {n} {e} (inr h) z = let w = entry-past n e h ∙ z in absurd (omega arith
 pub found : (s : List ℕ) (e : ℕ) → checkEntryOf s e ≡ 0 → Found s e
 found s e h =
     let p = then-zero (checkOf s) (entryNumberRefusal (entriesOf s) e) h in
-    record {
-      sheet = p .0;
-      size = check-size s (p .0);
-      entry = within (below e (entriesOf s)) (p .1);
-    }
+    record { size = check-size s (p .0); entry = within (below e (entriesOf s)) (p .1) }
 
 -- the twelve bytes from a place on, as the code takes them
 abbrev part : List ℕ → ℕ → List ℕ
@@ -174,7 +137,6 @@ twelve at s = let e : at + 12 - at ≡ 12 = omega arith in rw e refl
 pub the-setting : (s : List ℕ) (n e : ℕ) → n ≡ entriesOf s → part s (2 + n + 12 * e) ≡ settingAt s e
 the-setting s n e q = rw (twelve, q) refl
 
--- a lookup, by its steps
 module _ (s : List ℕ) (e : ℕ) {number : ℕ} (p : number ≡ checkEntryOf s e) where
   pub no-part : (number ≡ 0 → ⊥) → [] ≡ lookupOf s e
   no-part z = rw (← p, ne-eqb number 0 z) refl
@@ -188,22 +150,6 @@ module _ (s : List ℕ) (e : ℕ) {number : ℕ} (p : number ≡ checkEntryOf s 
   pub found-entry : {n : ℕ} → number ≡ 0 → n ≡ entriesOf s → e < n
   found-entry {n} z q = let h = found s e (sym p ∙ z) .entry in omega arith
 
--- ---- an entry
-
-pub entry-made : (k : ℕ) (t : List ℕ) {a b c : ℕ} → a ≡ wordFrom t 0 → b ≡ wordFrom t 4 → c ≡ wordFrom t 8
-    → _≡_ {A = Entry} (record { kind = k; a = a; b = b; c = c }) (entryOf k t)
-entry-made k t x y z = λ i. record { kind = k; a = x i; b = y i; c = z i }
-
--- the refusal of an entry, from its bytes
-pub refused-at : (s : List ℕ) (e : ℕ) {k r : ℕ} {x : List ℕ} {t : Entry} → k ≡ kindAt s e → x ≡ settingAt s e → t ≡ entryOf k x → r ≡ entryRefusal t → r ≡ refusalAt s e
-refused-at s e {k} {r} {x} {t} q y g h =
-    let w : t ≡ entryIn s e = g ∙ rw (q, y) refl in
-    h ∙ ap entryRefusal w
-
-pub ruleset wording = (nan-refused, nan-accepted, unused-accepted, unused-refused, needs)
-
-pub ruleset settings = (one-pole-setting, svf-setting, naive-setting, needs)
-
 pub ruleset sizes = (size-short, size-none, size-many, size-fits, size-other, needs)
 
 pub ruleset numbers = (entry-inside, entry-past, needs)
@@ -213,5 +159,3 @@ pub ruleset steps = (first-start, first-again, first-found, first-none, needs)
 pub ruleset checks = (size-refused, size-accepted, checked, needs)
 
 pub ruleset lookups = (the-setting, no-part, the-part, found-size, found-entry, needs)
-
-pub ruleset entries = (entry-made, refused-at, needs)

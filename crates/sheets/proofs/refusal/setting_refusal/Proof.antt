@@ -1,4 +1,4 @@
-use Rattle.sheets.proofs.Checks.{settings}
+use Rattle.sheets.proofs.EntryChecks.{settings}
 use Rattle.sheets.proofs.refusal.setting_refusal.Statement.{statement}
 use Rattle.sheets.proofs.refusal.setting_refusal.Tie as tie
 

@@ -1,4 +1,4 @@
-use Rattle.sheets.proofs.Checks.{wording}
+use Rattle.sheets.proofs.EntryChecks.{wording}
 use Rattle.sheets.proofs.refusal.word_refusal.Statement.{statement}
 use Rattle.sheets.proofs.refusal.word_refusal.Tie as tie
 
