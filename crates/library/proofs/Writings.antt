@@ -40,12 +40,11 @@ pub put-together : (l : Library) {a b : ℕ} {w x y : List ℕ} → length (map 
 put-together l {a} {b} {w} {x} {y} k h p q d e f =
     let n = l .n in
     let K = take n (l .kinds) in
-    let z = length-zero-bytes 834 in
     let v : b ≡ n / 256 = q ∙ omega arith in
     let c = kinds-count (l .kinds) n h k in
-    let head : x ≡ over 0 (a ∷ b ∷ K) (zeroBytes 834) = e ∙ ap (over 2 K) d ∙ over-append 0 (a ∷ b ∷ []) K (zeroBytes 834) (omega arith) in
+    let head : x ≡ over 0 (a ∷ b ∷ K) (zeroBytes 834) = e ∙ ap (over 2 K) d ∙ over-append 0 (a ∷ b ∷ []) K (zeroBytes 834) in
     let place : 2 + n ≡ 0 + length (a ∷ b ∷ K) = omega arith in
-    f ∙ rw (place, head) (over-append 0 (a ∷ b ∷ K) (take (12 * n) (l .settings)) (zeroBytes 834) (omega arith) ∙ rw (p, v) refl)
+    f ∙ rw (place, head) (over-append 0 (a ∷ b ∷ K) (take (12 * n) (l .settings)) (zeroBytes 834) ∙ rw (p, v) refl)
 
 -- ---- what is written of it
 
