@@ -73,6 +73,7 @@ module _ {t : Entry} where
   frequency-case e (wrong-frequency w) = w
 
 pub entry-row : (t : Entry) → EntryRow t (entryRefusal t)
+unfolding entryRefusal
 entry-row t = go (kind-of (t .kind % 16) (t .kind / 16))
   where
     go : Kind (t .kind % 16) (t .kind / 16) (setterOf (t .kind)) → EntryRow t (entryRefusal t)

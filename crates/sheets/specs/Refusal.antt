@@ -49,5 +49,5 @@ settingRefusal Unknown a = 0
 abbrev refusalBy : Setter → Entry → ℕ
 refusalBy s t = kindRefusal s then wordsRefusal (used s) t then settingRefusal s (t .a)
 
-abbrev pub entryRefusal : Entry → ℕ
+unfoldable pub entryRefusal : Entry → ℕ
 entryRefusal t = refusalBy (setterOf (t .kind)) t
