@@ -1,0 +1,15 @@
+use borrow.Author.Needs.{needs}
+use Rattle.sheets.proofs.refusal.entries.Statement.{statement}
+use Rattle.sheets.proofs.refusal.entries.Tie as tie
+
+pub entries-spec : {M : Type 1} → statement M
+entries-spec =
+    tie.close
+    (tie.spec
+    (λ c κs. search needs)
+    (λ c κs. search needs)
+    (λ c κs. search needs)
+    (λ c κs. search needs)
+    (λ c. search needs)
+    (λ c. search needs)
+    (λ c. search needs))
