@@ -1,6 +1,6 @@
 pub mod Zeros
 pub mod Readings
+pub mod Rows
 pub mod Writings
 pub mod Entries
-pub mod Rows
 pub mod RoundTrip

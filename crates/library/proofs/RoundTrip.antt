@@ -1,22 +1,19 @@
 -- A sheet and its library come back from each other. Assumes nothing.
-use Prim.Native.Nat.{ℕ, zero, suc, _+_, _*_, _-_, _%_, _/_, _≤_, _<_}
+use Prim.Native.Nat.{ℕ, zero, suc, _+_, _*_, _%_, _/_, _≤_, _<_}
 use mathlib.Core.Path.{_≡_, refl, sym, ap, _∙_}
 use mathlib.Core.List.{List, [], _∷_, _++_}
 use native.Mathlib.Omega.{arith}
 use borrow.Author.Tests.{ne-eqb}
 use lib.ListN.{length, getD, take, drop, length-take, length-drop, take-append-drop}
 use lib.Seq.{take-all, take-length, take-take, take-append-seam, drop-drop, getD-take, getD-drop}
-use Rattle.words.specs.Over.{over}
 use Rattle.words.proofs.Copies.{over-none, over-all, over-front}
-use Rattle.sheets.specs.Sheet.{entriesOf, Sized, kindAt, settingAt, entryIn, checkOf}
+use Rattle.sheets.specs.Sheet.{entriesOf, Sized, kindAt, settingAt, entryIn}
 use Rattle.sheets.specs.Rows.{Sheet}
 use Rattle.sheets.proofs.Rows.{sheet-check}
-use Rattle.library.specs.Library.{zeroBytes, none, libraryOf, readOf, bytesOf, settingIn, entryAt, writeRefusal, writeOf, writtenOf}
-use Rattle.library.specs.RoundTrip.{Rewritten, ReadWrite, WriteRead, RefusedWrite, OneSheet, Same, SameEntries}
-use Rattle.library.specs.declared.Written.{Written}
-use Rattle.library.specs.declared.Reading.{Reading}
+use Rattle.library.specs.Library.{zeroBytes, none, libraryOf, readOf, bytesOf, settingIn, entryAt, writeRefusal, writtenOf}
+use Rattle.library.specs.RoundTrip.{Rewritten, RefusedWrite, OneSheet, SameEntries}
 use Rattle.library.proofs.Zeros.{length-zero-bytes}
-use Rattle.library.proofs.Rows.{write-accepted}
+use Rattle.library.proofs.Rows.{write-fits}
 
 -- ---- lists
 
@@ -35,7 +32,7 @@ two-first (x ∷ (y ∷ s)) h = refl
 -- ---- a sheet's parts in its library
 
 module _ (s : List ℕ) (z : Sized s) where
-  pub kinds-in : take (entriesOf s) (libraryOf s .kinds) ≡ take (entriesOf s) (drop 2 s)
+  kinds-in : take (entriesOf s) (libraryOf s .kinds) ≡ take (entriesOf s) (drop 2 s)
   kinds-in =
       let n = entriesOf s in
       let l = z .long in
@@ -44,7 +41,7 @@ module _ (s : List ℕ) (z : Sized s) where
       over-front n (take n (drop 2 s)) (zeroBytes 64) (omega arith) (omega (arith, length-zero-bytes 64))
       ∙ take-take n n (drop 2 s) (omega arith)
 
-  pub settings-in : take (12 * entriesOf s) (libraryOf s .settings) ≡ drop (2 + entriesOf s) s
+  settings-in : take (12 * entriesOf s) (libraryOf s .settings) ≡ drop (2 + entriesOf s) s
   settings-in =
       let n = entriesOf s in
       let l = z .long in
@@ -54,7 +51,7 @@ module _ (s : List ℕ) (z : Sized s) where
       ∙ take-all (12 * n) (drop (2 + n) s) (omega arith)
 
   -- the sheet of the library is the sheet
-  pub bytes-in : bytesOf (libraryOf s) ≡ s
+  bytes-in : bytesOf (libraryOf s) ≡ s
   bytes-in =
       let n = entriesOf s in
       let l = z .long in
@@ -71,7 +68,7 @@ module _ (s : List ℕ) (h : Sheet s) where
   accepted : (out : List ℕ) → length s ≤ length out → writeRefusal (entriesOf s) (length out) ≡ 0
   accepted out r =
       let l = h .size .long in
-      write-accepted (entriesOf s) (length out) (h .size .most) (h .size .some) (omega arith)
+      sym (write-fits (entriesOf s) (length out) (h .size .some) (h .size .most) (omega arith))
 
   pub rewritten : (out : List ℕ) → length s ≤ length out → Rewritten s out
   rewritten out r =
@@ -97,19 +94,19 @@ one-sheet s t h k e = sym (bytes-in s (h .size)) ∙ ap bytesOf e ∙ bytes-in t
 -- ---- entries
 
 module _ (s : List ℕ) (h : Sheet s) (e : ℕ) (l : e < entriesOf s) where
-  pub kind-in : getD (libraryOf s .kinds) e 0 ≡ kindAt s e
+  kind-in : getD (libraryOf s .kinds) e 0 ≡ kindAt s e
   kind-in =
       let n = entriesOf s in
       sym (getD-take n (libraryOf s .kinds) e 0 l) ∙ ap (λ (x : List ℕ). getD x e 0) (kinds-in s (h .size)) ∙ getD-take n (drop 2 s) e 0 l ∙ getD-drop 2 s e 0
 
-  pub setting-in : settingIn (libraryOf s) e ≡ settingAt s e
+  setting-in : settingIn (libraryOf s) e ≡ settingAt s e
   setting-in =
       let n = entriesOf s in
       sym (part-of-first (12 * e) 12 (12 * n) (libraryOf s .settings) (omega arith))
       ∙ ap (λ (x : List ℕ). take 12 (drop (12 * e) x)) (settings-in s (h .size))
       ∙ ap (take 12) (drop-drop (12 * e) (2 + n) s)
 
-  pub entry-in : entryAt (libraryOf s) e ≡ entryIn s e
+  entry-in : entryAt (libraryOf s) e ≡ entryIn s e
   entry-in = rw (kind-in, setting-in) refl
 
 pub same-entries : SameEntries

@@ -4,12 +4,13 @@ use mathlib.Core.Path.{_≡_, refl}
 use mathlib.Core.List.{List, [], _∷_}
 use mathlib.Core.Logic.{_⊎_, inl, inr}
 use native.Mathlib.Omega.{arith}
+use borrow.Author.Needs.{needs}
 use borrow.Author.Tests.{lt-ltb, le-ltb, eq-eqb, ne-eqb}
 use lib.ListN.{length}
 use Rattle.words.specs.Rows.{First, none, here, later}
-use Rattle.words.proofs.Rows.{below, once, exactly}
+use Rattle.words.proofs.Rows.{below, exactly}
 use Rattle.library.specs.Library.{writeRefusal}
-use Rattle.library.specs.Rows.{Held, nothing, of-sheet, WriteCase, no-entries, short, WriteRow, WriteByRows}
+use Rattle.library.specs.Rows.{nothing, of-sheet, WriteCase, no-entries, short, WriteRow, WriteByRows}
 use Rattle.library.specs.declared.Library.{Library}
 
 module _ {n m : ℕ} where
@@ -27,18 +28,27 @@ module _ {n m : ℕ} where
   has-room : 2 + 13 * n ≤ m → WriteCase n m 12 → ⊥
   has-room h c = omega (arith, short-case refl c)
 
+module _ (n m : ℕ) where
+  pub write-none : n < 1 → 2 ≡ writeRefusal n m
+  write-none a = rw (lt-ltb n) refl
+
+  pub write-many : 1 ≤ n → 64 < n → 2 ≡ writeRefusal n m
+  write-many a b = rw (le-ltb n, lt-ltb 64) refl
+
+  pub write-short : 1 ≤ n → n ≤ 64 → m < 2 + 13 * n → 12 ≡ writeRefusal n m
+  write-short a b c = rw (le-ltb n, le-ltb 64, lt-ltb m) refl
+
+  pub write-fits : 1 ≤ n → n ≤ 64 → 2 + 13 * n ≤ m → 0 ≡ writeRefusal n m
+  write-fits a b c = rw (le-ltb n, le-ltb 64, le-ltb m) refl
+
 module _ (n m : ℕ) (h : n ≤ 64) where
   write-first : First (WriteCase n m) (2 ∷ 12 ∷ []) (writeRefusal n m)
   write-first = go (below n 1) (below m (2 + 13 * n))
     where
       go : (n < 1) ⊎ (1 ≤ n) → (m < 2 + 13 * n) ⊎ (2 + 13 * n ≤ m) → First (WriteCase n m) (2 ∷ 12 ∷ []) (writeRefusal n m)
-      go (inl a) w = rw (lt-ltb n) (here (no-entries (omega arith)))
-      go (inr a) (inl b) = rw (le-ltb n, le-ltb 64, lt-ltb m) (later (has-entries a) (here (short b)))
-      go (inr a) (inr b) = rw (le-ltb n, le-ltb 64, le-ltb m) (later (has-entries a) (later (has-room b) none))
-
-  -- a write that has entries and room for them is accepted
-  pub write-accepted : 1 ≤ n → 2 + 13 * n ≤ m → writeRefusal n m ≡ 0
-  write-accepted a b = once write-first (later (has-entries a) (later (has-room b) none))
+      go (inl a) w = rw (← write-none n m a) (here (no-entries (omega arith)))
+      go (inr a) (inl b) = rw (← write-short n m a h b) (later (has-entries a) (here (short b)))
+      go (inr a) (inr b) = rw (← write-fits n m a h b) (later (has-entries a) (later (has-room b) none))
 
 write-row : (l : Library) (out : List ℕ) → l .n ≤ 64 → WriteRow l (l .n) out
 write-row l out h =
@@ -51,3 +61,5 @@ write-row l out h =
 pub write-by-rows : WriteByRows
 write-by-rows l n nothing out = write-row l out (omega arith)
 write-by-rows l n (of-sheet h) out = write-row l out (h .size .most)
+
+pub ruleset refusals = (write-none, write-many, write-short, write-fits, needs)

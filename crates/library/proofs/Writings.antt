@@ -1,14 +1,14 @@
 -- Writing a library. Assumes nothing.
-use Prim.Native.Nat.{ℕ, zero, suc, _+_, _*_, _-_, _%_, _/_, _≤_, _<_}
+use Prim.Native.Nat.{ℕ, _+_, _*_, _%_, _/_, _≤_, _<_}
 use mathlib.Core.Path.{_≡_, refl, sym, ap, _∙_}
 use mathlib.Core.Bool.{Bool, true, false}
-use mathlib.Core.List.{List, [], _∷_, _++_, map}
+use mathlib.Core.List.{List, [], _∷_, map}
 use mathlib.Core.Logic.{_⊎_, inl, inr}
 use native.Mathlib.Omega.{arith}
 use borrow.Author.Needs.{needs, length-unmapped}
-use borrow.Author.Tests.{lt-ltb, le-ltb, eqb-true}
-use lib.Dec.{eqb, ltb}
-use lib.ListN.{length, getD, set, take, drop, length-append}
+use borrow.Author.Tests.{eqb-true}
+use lib.Dec.{eqb}
+use lib.ListN.{length, take, length-append}
 use lib.Seq.{length-take-le}
 use Rattle.words.specs.Over.{over}
 use Rattle.words.proofs.Copies.{over-append, over-front}
@@ -17,6 +17,7 @@ use Rattle.library.specs.Library.{zeroBytes, bytesOf, writeRefusal, writ
 use Rattle.library.specs.declared.Library.{Library}
 use Rattle.library.specs.declared.Written.{Written}
 use Rattle.library.proofs.Zeros.{length-zero-bytes}
+use Rattle.library.proofs.Rows.{write-many}
 
 -- the arrays have room for as many as 64 entries
 module _ (l : List ℕ) (n : ℕ) (h : n ≤ 64) where
@@ -39,12 +40,11 @@ pub put-together : (l : Library) {a b : ℕ} {w x y : List ℕ} → length (map 
 put-together l {a} {b} {w} {x} {y} k h p q d e f =
     let n = l .n in
     let K = take n (l .kinds) in
-    let z = length-zero-bytes 834 in
     let v : b ≡ n / 256 = q ∙ omega arith in
     let c = kinds-count (l .kinds) n h k in
-    let head : x ≡ over 0 (a ∷ b ∷ K) (zeroBytes 834) = e ∙ ap (over 2 K) d ∙ over-append 0 (a ∷ b ∷ []) K (zeroBytes 834) (omega arith) in
+    let head : x ≡ over 0 (a ∷ b ∷ K) (zeroBytes 834) = e ∙ ap (over 2 K) d ∙ over-append 0 (a ∷ b ∷ []) K (zeroBytes 834) in
     let place : 2 + n ≡ 0 + length (a ∷ b ∷ K) = omega arith in
-    f ∙ rw (place, head) (over-append 0 (a ∷ b ∷ K) (take (12 * n) (l .settings)) (zeroBytes 834) (omega arith) ∙ rw (p, v) refl)
+    f ∙ rw (place, head) (over-append 0 (a ∷ b ∷ K) (take (12 * n) (l .settings)) (zeroBytes 834) ∙ rw (p, v) refl)
 
 -- ---- what is written of it
 
@@ -54,14 +54,14 @@ few n room e z = go (below 64 n)
     go : (64 < n) ⊎ (n ≤ 64) → n ≤ 64
     go (inl a) =
         let b : 1 ≤ n = omega arith in
-        let c : _≡_ {A = ℕ} 2 0 = rw (le-ltb n, lt-ltb 64) at (sym e ∙ z) in
+        let c : _≡_ {A = ℕ} 2 0 = write-many n room b a ∙ sym e ∙ z in
         absurd (omega arith)
     go (inr a) = a
 
 pub part-count : (l : List ℕ) (k : ℕ) → length l ≡ 834 → k ≤ 834 → k ≡ length (take k l)
 part-count l k e h = sym (length-take-le k l (omega arith))
 
-pub length-bytes : (l : Library) → length (l .kinds) ≡ 64 → length (l .settings) ≡ 768 → l .n ≤ 64 → length (bytesOf l) ≡ 2 + 13 * l .n
+length-bytes : (l : Library) → length (l .kinds) ≡ 64 → length (l .settings) ≡ 768 → l .n ≤ 64 → length (bytesOf l) ≡ 2 + 13 * l .n
 length-bytes l k s h =
     let a = length-append (l .n % 256 ∷ l .n / 256 ∷ take (l .n) (l .kinds)) (take (12 * l .n) (l .settings)) in
     let b = length-take-le (l .n) (l .kinds) (omega arith) in

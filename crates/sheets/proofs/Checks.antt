@@ -1,20 +1,18 @@
--- The check of a sheet: the first refusal of several, and what an accepted size tells. Assumes nothing.
+-- The check of a sheet and of a lookup, by their steps. Assumes nothing.
 use Prim.Native.Nat.{ℕ, zero, suc, _+_, _*_, _-_, _≤_, _<_}
-use mathlib.Core.Path.{_≡_, refl, sym, ap, _∙_}
-use mathlib.Core.Bool.{Bool, true, false, cond}
+use mathlib.Core.Path.{_≡_, refl, sym, _∙_}
+use mathlib.Core.Bool.{Bool, true, false}
 use mathlib.Core.List.{List, []}
+use mathlib.Core.Logic.{_⊎_, inl, inr}
 use native.Mathlib.Numerals.{add-one}
 use native.Mathlib.Omega.{arith}
 use borrow.Author.Needs.{needs}
-use borrow.Author.Tests.{eqb-true, eqb-false, eq-eqb, ne-eqb, ltb-true, ltb-false, lt-ltb, le-ltb}
-use lib.Dec.{eqb, ltb}
+use borrow.Author.Tests.{eqb-true, eqb-false, eq-eqb, ne-eqb, lt-ltb, le-ltb}
+use lib.Dec.{eqb}
 use lib.ListN.{length, take, drop}
-use Rattle.words.specs.Word.{wordFrom, otherNan}
-use Rattle.words.specs.Rows.{_then_}
-use Rattle.words.proofs.Rows.{then-zero, none-then, some-then, not-taken, taken}
-use Rattle.sheets.specs.Refusal.{firstRefusal, wordRefusal, entryRefusal}
-use Rattle.sheets.specs.Sheet.{entriesOf, Sized, kindAt, settingAt, entryOf, entryIn, sizeRefusal, refusalAt, checkOf, entryNumberRefusal, checkEntryOf, lookupOf}
-use Rattle.sheets.specs.declared.entry.Entry.{Entry}
+use Rattle.words.proofs.Rows.{then-zero, none-then, some-then, below, same}
+use Rattle.sheets.specs.Refusal.{firstRefusal}
+use Rattle.sheets.specs.Sheet.{entriesOf, Sized, settingAt, sizeRefusal, refusalAt, checkOf, entryNumberRefusal, checkEntryOf, lookupOf}
 
 -- ---- the first refusal of many
 
@@ -43,56 +41,51 @@ first-all f (suc n) h = rw (first-all f n (λ e l. h e (omega arith)), h n (omeg
 pub first-none : (f : ℕ → ℕ) (n e : ℕ) → firstRefusal e f ≡ 0 → e ≤ n → n ≤ e → 0 ≡ firstRefusal n f
 first-none f n e p a b = let w : e ≡ n = omega arith in sym (rw w at p)
 
--- ---- a word
-
-module _ (u k w : ℕ) where
-  pub nan-refused : {r : Bool} → k < u → r ≡ otherNan w → r ≡ true → 4 ≡ wordRefusal u k w
-  nan-refused l p q = rw (lt-ltb k u l, ← p, q) refl
-
-  pub nan-accepted : {r : Bool} → k < u → r ≡ otherNan w → r ≡ false → 0 ≡ wordRefusal u k w
-  nan-accepted l p q = rw (lt-ltb k u l, ← p, q) refl
-
-  pub unused-accepted : u ≤ k → w ≡ 0 → 0 ≡ wordRefusal u k w
-  unused-accepted l e = rw (le-ltb k u l, eq-eqb w 0 e) refl
-
-  pub unused-refused : u ≤ k → (w ≡ 0 → ⊥) → 4 ≡ wordRefusal u k w
-  unused-refused l e = rw (le-ltb k u l, ne-eqb w 0 e) refl
-
 -- ---- sizes
 
-two : _≡_ {A = ℕ} 2 0 → ⊥
-two z = omega arith
+module _ (l n : ℕ) where
+  pub size-short : l < 2 → 2 ≡ sizeRefusal l n
+  size-short a = rw (lt-ltb l) refl
 
-five : _≡_ {A = ℕ} 5 0 → ⊥
-five z = omega arith
+  pub size-none : 2 ≤ l → n < 1 → 2 ≡ sizeRefusal l n
+  size-none a b = rw (le-ltb l, lt-ltb n) refl
 
-pub size-two : (l n : ℕ) → (2 ≤ l → 1 ≤ n → n ≤ 64 → l ≡ 2 + 13 * n → ⊥) → 2 ≡ sizeRefusal l n
-size-two l n h = go (ltb l 2) (ltb n 1) (ltb 64 n) (eqb l (2 + 13 * n)) refl refl refl refl
+  pub size-many : 2 ≤ l → 1 ≤ n → 64 < n → 2 ≡ sizeRefusal l n
+  size-many a b c = rw (le-ltb l, le-ltb n, lt-ltb) refl
+
+  pub size-fits : 2 ≤ l → 1 ≤ n → n ≤ 64 → l ≡ 2 + 13 * n → 0 ≡ sizeRefusal l n
+  size-fits a b c d = rw (le-ltb l, le-ltb n, le-ltb, eq-eqb) refl
+
+  pub size-other : 2 ≤ l → 1 ≤ n → n ≤ 64 → (l ≡ 2 + 13 * n → ⊥) → 2 ≡ sizeRefusal l n
+  size-other a b c d = rw (le-ltb l, le-ltb n, le-ltb, ne-eqb) refl
+
+-- a size is right and accepted, or neither
+pub data Size (s : List ℕ) : Type 0 where
+  right : Sized s → sizeRefusal (length s) (entriesOf s) ≡ 0 → Size s
+  wrong : (Sized s → ⊥) → sizeRefusal (length s) (entriesOf s) ≡ 2 → Size s
+
+pub size-of : (s : List ℕ) → Size s
+size-of s = go (below l 2) (below n 1) (below 64 n) (same l (2 + 13 * n))
   where
-    go : (a b c d : Bool) → ltb l 2 ≡ a → ltb n 1 ≡ b → ltb 64 n ≡ c → eqb l (2 + 13 * n) ≡ d → 2 ≡ sizeRefusal l n
-    go true b c d p q r s = rw p refl
-    go false true c d p q r s = rw (p, q) refl
-    go false false true d p q r s = rw (p, q, r) refl
-    go false false false true p q r s = absurd (h (ltb-false l 2 p) (ltb-false n 1 q) (ltb-false 64 n r) (eqb-true l (2 + 13 * n) s))
-    go false false false false p q r s = rw (p, q, r, s) refl
+    l : ℕ
+    l = length s
 
-pub size-zero : (l n : ℕ) → 2 ≤ l → 1 ≤ n → n ≤ 64 → l ≡ 2 + 13 * n → 0 ≡ sizeRefusal l n
-size-zero l n a b c d = rw (le-ltb l 2 a, le-ltb n 1 b, le-ltb 64 n c, eq-eqb l (2 + 13 * n) d) refl
+    n : ℕ
+    n = entriesOf s
 
-pub sized : (s : List ℕ) → sizeRefusal (length s) (entriesOf s) ≡ 0 → Sized s
-sized s h = go (length s) (entriesOf s) refl refl h
+    go : (l < 2) ⊎ (2 ≤ l) → (n < 1) ⊎ (1 ≤ n) → (64 < n) ⊎ (n ≤ 64) → (l ≡ 2 + 13 * n) ⊎ (l ≡ 2 + 13 * n → ⊥) → Size s
+    go (inl a) b c d = wrong (λ z. let h = z .long in omega arith) (sym (size-short l n a))
+    go (inr a) (inl b) c d = wrong (λ z. let h = z .some in omega arith) (sym (size-none l n a b))
+    go (inr a) (inr b) (inl c) d = wrong (λ z. let h = z .most in omega arith) (sym (size-many l n a b c))
+    go (inr a) (inr b) (inr c) (inl d) = right (record { some = b; most = c; long = d }) (sym (size-fits l n a b c d))
+    go (inr a) (inr b) (inr c) (inr d) = wrong (λ z. d (z .long)) (sym (size-other l n a b c d))
+
+sized : (s : List ℕ) → sizeRefusal (length s) (entriesOf s) ≡ 0 → Sized s
+sized s h = go (size-of s)
   where
-    go : (l n : ℕ) → length s ≡ l → entriesOf s ≡ n → sizeRefusal l n ≡ 0 → Sized s
-    go l n p q h =
-        let a = not-taken (ltb l 2) two h in
-        let b = not-taken (ltb n 1) two (a .1) in
-        let c = not-taken (ltb 64 n) two (b .1) in
-        let d = eqb-true l (2 + 13 * n) (taken (eqb l (2 + 13 * n)) two (c .1)) in
-        record {
-          some = rw q (ltb-false n 1 (b .0));
-          most = rw q (ltb-false 64 n (c .0));
-          long = rw (p, q) d;
-        }
+    go : Size s → Sized s
+    go (right z e) = z
+    go (wrong n e) = let w = sym e ∙ h in absurd (omega arith)
 
 -- the check, by its steps
 module _ (s : List ℕ) (n : ℕ) {number : ℕ} (p : n ≡ entriesOf s) (q : number ≡ sizeRefusal (length s) n) where
@@ -111,20 +104,28 @@ module _ (s : List ℕ) (n : ℕ) {number : ℕ} (p : n ≡ entriesOf s) (q : nu
 pub check-size : (s : List ℕ) → checkOf s ≡ 0 → Sized s
 check-size s h = sized s (then-zero (sizeRefusal (length s) (entriesOf s)) (firstRefusal (entriesOf s) (refusalAt s)) h .0)
 
--- what an accepted lookup tells
+-- ---- a lookup
+
+-- what an accepted one tells
 pub record Found (s : List ℕ) (e : ℕ) : Type 0 where
-  pub sheet : checkOf s ≡ 0
   pub size : Sized s
   pub entry : e < entriesOf s
+
+module _ (n e : ℕ) where
+  pub entry-inside : e < n → 0 ≡ entryNumberRefusal n e
+  entry-inside h = rw lt-ltb refl
+
+  pub entry-past : n ≤ e → 5 ≡ entryNumberRefusal n e
+  entry-past h = rw le-ltb refl
+
+within : {n e : ℕ} → (e < n) ⊎ (n ≤ e) → entryNumberRefusal n e ≡ 0 → e < n
+within (inl h) z = h
+within {n} {e} (inr h) z = let w = entry-past n e h ∙ z in absurd (omega arith)
 
 pub found : (s : List ℕ) (e : ℕ) → checkEntryOf s e ≡ 0 → Found s e
 found s e h =
     let p = then-zero (checkOf s) (entryNumberRefusal (entriesOf s) e) h in
-    record {
-      sheet = p .0;
-      size = check-size s (p .0);
-      entry = ltb-true e (entriesOf s) (taken (ltb e (entriesOf s)) five (p .1));
-    }
+    record { size = check-size s (p .0); entry = within (below e (entriesOf s)) (p .1) }
 
 -- the twelve bytes from a place on, as the code takes them
 abbrev part : List ℕ → ℕ → List ℕ
@@ -136,7 +137,6 @@ twelve at s = let e : at + 12 - at ≡ 12 = omega arith in rw e refl
 pub the-setting : (s : List ℕ) (n e : ℕ) → n ≡ entriesOf s → part s (2 + n + 12 * e) ≡ settingAt s e
 the-setting s n e q = rw (twelve, q) refl
 
--- a lookup, by its steps
 module _ (s : List ℕ) (e : ℕ) {number : ℕ} (p : number ≡ checkEntryOf s e) where
   pub no-part : (number ≡ 0 → ⊥) → [] ≡ lookupOf s e
   no-part z = rw (← p, ne-eqb number 0 z) refl
@@ -150,16 +150,12 @@ module _ (s : List ℕ) (e : ℕ) {number : ℕ} (p : number ≡ checkEntryOf s 
   pub found-entry : {n : ℕ} → number ≡ 0 → n ≡ entriesOf s → e < n
   found-entry {n} z q = let h = found s e (sym p ∙ z) .entry in omega arith
 
--- ---- an entry
+pub ruleset sizes = (size-short, size-none, size-many, size-fits, size-other, needs)
 
-pub entry-made : (k : ℕ) (t : List ℕ) {a b c : ℕ} → a ≡ wordFrom t 0 → b ≡ wordFrom t 4 → c ≡ wordFrom t 8
-    → _≡_ {A = Entry} (record { kind = k; a = a; b = b; c = c }) (entryOf k t)
-entry-made k t x y z = λ i. record { kind = k; a = x i; b = y i; c = z i }
+pub ruleset numbers = (entry-inside, entry-past, needs)
 
--- the refusal of an entry, from its bytes
-pub refused-at : (s : List ℕ) (e : ℕ) {k r : ℕ} {x : List ℕ} {t : Entry} → k ≡ kindAt s e → x ≡ settingAt s e → t ≡ entryOf k x → r ≡ entryRefusal t → r ≡ refusalAt s e
-refused-at s e {k} {r} {x} {t} q y g h =
-    let w : t ≡ entryIn s e = g ∙ rw (q, y) refl in
-    h ∙ ap entryRefusal w
+pub ruleset steps = (first-start, first-again, first-found, first-none, needs)
 
-pub ruleset checks = (none-then, some-then, first-start, first-again, first-found, first-none, size-refused, size-accepted, checked, the-setting, no-part, the-part, found-size, found-entry, entry-made, refused-at, needs)
+pub ruleset checks = (size-refused, size-accepted, checked, needs)
+
+pub ruleset lookups = (the-setting, no-part, the-part, found-size, found-entry, needs)

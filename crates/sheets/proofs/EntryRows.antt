@@ -57,7 +57,7 @@ words-step u t = go (word-step u 0 (t .a)) (word-step u 1 (t .b)) (word-step u 2
 -- ---- a case, by its number
 
 module _ {t : Entry} where
-  pub kind-case : {r : ℕ} → r ≡ 3 → EntryCase t r → KindWrong (t .kind % 16) (t .kind / 16)
+  kind-case : {r : ℕ} → r ≡ 3 → EntryCase t r → KindWrong (t .kind % 16) (t .kind / 16)
   kind-case e (wrong-kind w) = w
   kind-case e (wrong-words w) = absurd (omega arith)
   kind-case e (wrong-frequency w) = absurd (omega arith)
@@ -73,6 +73,7 @@ module _ {t : Entry} where
   frequency-case e (wrong-frequency w) = w
 
 pub entry-row : (t : Entry) → EntryRow t (entryRefusal t)
+unfolding entryRefusal
 entry-row t = go (kind-of (t .kind % 16) (t .kind / 16))
   where
     go : Kind (t .kind % 16) (t .kind / 16) (setterOf (t .kind)) → EntryRow t (entryRefusal t)

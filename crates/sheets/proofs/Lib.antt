@@ -1,4 +1,5 @@
 pub mod KindBytes
+pub mod EntryChecks
 pub mod Checks
 pub mod KindRows
 pub mod EntryRows

@@ -1,7 +1,7 @@
 -- The check's number is that of the refusal table's row, and of no other. Assumes nothing.
-use Prim.Native.Nat.{ℕ, zero, suc, _+_, _*_, _≤_, _<_}
+use Prim.Native.Nat.{ℕ, zero, suc, _+_, _*_, _<_}
 use mathlib.Core.Path.{_≡_, refl, sym, _∙_}
-use mathlib.Core.Bool.{Bool, true, false, cond}
+use mathlib.Core.Bool.{Bool, true, false}
 use mathlib.Core.List.{List}
 use mathlib.Core.Logic.{_⊎_, inl, inr}
 use native.Mathlib.Omega.{arith}
@@ -9,34 +9,11 @@ use borrow.Author.Tests.{eqb-true, eqb-false, ne-eqb, ltb-true, ltb-false, lt-lt
 use lib.Dec.{eqb, ltb}
 use lib.ListN.{length, drop, length-drop}
 use lib.Seq.{length-take-le}
-use Rattle.words.specs.Rows.{_then_}
-use Rattle.words.proofs.Rows.{once, none-then, some-then}
-use Rattle.sheets.specs.Refusal.{firstRefusal}
-use Rattle.sheets.specs.Sheet.{entriesOf, Sized, sizeRefusal, entryIn, refusalAt, checkOf, entryNumberRefusal, checkEntryOf, lookupOf}
+use Rattle.words.proofs.Rows.{once, some-then}
+use Rattle.sheets.specs.Sheet.{entriesOf, entryIn, refusalAt, checkOf, entryNumberRefusal, checkEntryOf, lookupOf}
 use Rattle.sheets.specs.Rows.{EntryRow, Sheet, SheetRow, is-sheet, wrong-size, wrong-entry, LookupRow, is-found, no-sheet, no-entry, Checked}
-use Rattle.sheets.proofs.Checks.{first-found, first-all, size-zero, sized, found}
+use Rattle.sheets.proofs.Checks.{Size, right, wrong, size-of, first-found, first-all, found}
 use Rattle.sheets.proofs.EntryRows.{entry-row}
-
--- ---- sizes
-
-abbrev NoneOrTwo : ℕ → Type 0
-NoneOrTwo x = (x ≡ 0) ⊎ (x ≡ 2)
-
-size-either : (l n : ℕ) → NoneOrTwo (sizeRefusal l n)
-size-either l n = chosen (ltb l 2) _ (chosen (ltb n 1) _ (chosen (ltb 64 n) _ (last (eqb l (2 + 13 * n)))))
-  where
-    chosen : (b : Bool) (x : ℕ) → NoneOrTwo x → NoneOrTwo (cond b 2 x)
-    chosen true x o = inr refl
-    chosen false x o = o
-
-    last : (b : Bool) → NoneOrTwo (cond b 0 2)
-    last true = inl refl
-    last false = inr refl
-
-size-right : (s : List ℕ) → Sized s → sizeRefusal (length s) (entriesOf s) ≡ 0
-size-right s z =
-    let l = z .long in
-    sym (size-zero (length s) (entriesOf s) (omega arith) (z .some) (z .most) l)
 
 -- ---- the entries: all of the first n are right, or there is a first that is not
 
@@ -69,25 +46,26 @@ module _ (s : List ℕ) where
   number-at e p = once (row-at e) p
 
   sheet-row : SheetRow s (checkOf s)
-  sheet-row = go (size-either (length s) (entriesOf s)) (scan (refusalAt s) (entriesOf s))
+  sheet-row = go (size-of s) (scan (refusalAt s) (entriesOf s))
     where
-      go : NoneOrTwo (sizeRefusal (length s) (entriesOf s))
-          → ((i : ℕ) → i < entriesOf s → refusalAt s i ≡ 0) ⊎ Wrong (refusalAt s) (entriesOf s) → SheetRow s (checkOf s)
-      go (inr p) w = rw p (wrong-size (λ z. let e = sym p ∙ size-right s z in omega arith))
-      go (inl p) (inl b) = rw (p, first-all (refusalAt s) (entriesOf s) b) (is-sheet (record { size = sized s p; entries = λ e l. rw (b e l) at (row-at e) }))
-      go (inl p) (inr w) =
+      go : Size s → ((i : ℕ) → i < entriesOf s → refusalAt s i ≡ 0) ⊎ Wrong (refusalAt s) (entriesOf s) → SheetRow s (checkOf s)
+      go (wrong n p) w = rw p (wrong-size n)
+      go (right z p) (inl b) = rw (p, first-all (refusalAt s) (entriesOf s) b) (is-sheet (record { size = z; entries = λ e l. rw (b e l) at (row-at e) }))
+      go (right z p) (inr w) =
           let d = first-found (refusalAt s) (entriesOf s) (w .place) (first-all (refusalAt s) (w .place) (w .before)) (w .inside) refl (w .some) in
-          rw (p, ← d) (wrong-entry (w .place) (sized s p) (w .inside) (λ i l. rw (w .before i l) at (row-at i)) (row-at (w .place)) (w .some))
+          rw (p, ← d) (wrong-entry (w .place) z (w .inside) (λ i l. rw (w .before i l) at (row-at i)) (row-at (w .place)) (w .some))
 
   sheet-only : {r : ℕ} → SheetRow s r → r ≡ checkOf s
-  sheet-only (is-sheet h) = rw (size-right s (h .size), first-all (refusalAt s) (entriesOf s) (λ e l. number-at e (h .entries e l))) refl
-  sheet-only (wrong-size n) = go (size-either (length s) (entriesOf s))
+  sheet-only p = go (size-of s) p
     where
-      go : NoneOrTwo (sizeRefusal (length s) (entriesOf s)) → 2 ≡ checkOf s
-      go (inl e) = absurd (n (sized s e))
-      go (inr e) = rw e refl
-  sheet-only (wrong-entry e z l b p d) =
-      rw (size-right s z) (first-found (refusalAt s) (entriesOf s) e (first-all (refusalAt s) e (λ i j. number-at i (b i j))) l (sym (number-at e p)) d)
+      go : {r : ℕ} → Size s → SheetRow s r → r ≡ checkOf s
+      go (right z e) (is-sheet h) = rw (e, first-all (refusalAt s) (entriesOf s) (λ i l. number-at i (h .entries i l))) refl
+      go (right z e) (wrong-size n) = absurd (n z)
+      go (right z e) (wrong-entry i y l b p d) =
+          rw e (first-found (refusalAt s) (entriesOf s) i (first-all (refusalAt s) i (λ j k. number-at j (b j k))) l (sym (number-at i p)) d)
+      go (wrong n e) (is-sheet h) = absurd (n (h .size))
+      go (wrong n e) (wrong-size m) = rw e refl
+      go (wrong n e) (wrong-entry i z l b p d) = absurd (n z)
 
   is-zero : {r : ℕ} → SheetRow s r → r ≡ 0 → Sheet s
   is-zero (is-sheet h) z = h

@@ -46,8 +46,8 @@ settingRefusal CrossoverSvf a = 0
 settingRefusal Unknown a = 0
 
 -- an entry with the setter s: 3, then 4, then 11
-abbrev pub refusalBy : Setter → Entry → ℕ
+abbrev refusalBy : Setter → Entry → ℕ
 refusalBy s t = kindRefusal s then wordsRefusal (used s) t then settingRefusal s (t .a)
 
-abbrev pub entryRefusal : Entry → ℕ
+unfoldable pub entryRefusal : Entry → ℕ
 entryRefusal t = refusalBy (setterOf (t .kind)) t

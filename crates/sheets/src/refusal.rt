@@ -1,7 +1,7 @@
 // The check of a sheet: its size, then entry by entry, each entry's kind, words and frequency, in that order.
 
 ghost use mathlib.Core.Path.{_≡_};
-ghost use Prim.Native.Nat.{_+_, _*_, _≤_, _<_};
+ghost use Prim.Native.Nat.{_+_, _*_, _<_};
 ghost use lib.ListN.{length};
 ghost use Rattle.filter_core.specs.Arithmetic.{word};
 ghost use Rattle.filter_core.specs.Refusal.{frequencyRefusal};

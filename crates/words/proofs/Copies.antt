@@ -1,17 +1,16 @@
 -- One list written over another, and the loop that does it. Assumes nothing.
-use Prim.Native.Nat.{ℕ, zero, suc, _+_, _-_, _≤_, _<_}
+use Prim.Native.Nat.{ℕ, _+_, _≤_, _<_}
 use mathlib.Core.Path.{_≡_, refl, sym, ap, _∙_}
-use mathlib.Core.Bool.{Bool, true, false}
-use mathlib.Core.List.{List, [], _∷_, _++_, append-assoc, append-nil}
-use native.Mathlib.Nat.{add-zero, zero-add, add-assoc}
+use mathlib.Core.List.{List, [], _++_, append-assoc}
+use mathlib.Core.Logic.{⊎-elim}
+use native.Mathlib.Nat.{zero-add, add-assoc}
 use native.Mathlib.Numerals.{add-one}
 use native.Mathlib.Omega.{arith}
 use borrow.Author.Needs.{needs}
-use borrow.Author.Tests.{leb-true, leb-false}
-use lib.Dec.{leb}
 use lib.ListN.{length, getD, set, take, drop, length-set, length-append}
-use lib.Seq.{paste, paste-zero, paste-suc, length-paste, take-paste, drop-paste, take-append-add, take-append-le, take-all, take-length, drop-drop, length-take-le}
+use lib.Seq.{paste, paste-zero, paste-suc, length-paste, take-paste, drop-paste, take-append-add, take-append-le, take-length, drop-drop}
 use Rattle.words.specs.Over.{room, over}
+use Rattle.words.proofs.Rows.{below}
 
 module _ {A : Type 0} where
   -- where nothing has room, nothing is written
@@ -30,11 +29,7 @@ module _ {A : Type 0} where
   length-inside at xs ys h = length-paste ys at xs (room at xs ys) (omega arith) (omega arith)
 
   pub length-over : (at : ℕ) (xs ys : List A) → length (over at xs ys) ≡ length ys
-  length-over at xs ys = go (leb at (length ys)) refl
-    where
-      go : (b : Bool) → leb at (length ys) ≡ b → length (over at xs ys) ≡ length ys
-      go true q = length-inside at xs ys (leb-true at (length ys) q)
-      go false q = ap length (over-past at xs ys (omega (arith, leb-false at (length ys) q)))
+  length-over at xs ys = ⊎-elim (λ h. ap length (over-past at xs ys (omega arith))) (length-inside at xs ys) (below (length ys) at)
 
   -- all of it, where it has room
   pub over-all : (xs ys : List A) → length xs ≤ length ys → over 0 xs ys ≡ xs ++ drop (length xs) ys
@@ -61,9 +56,9 @@ module _ {A : Type 0} where
   room-append : (at : ℕ) (xs ws ys : List A) → at + length xs ≤ length ys → room at (xs ++ ws) ys ≡ length xs + room (at + length xs) ws ys
   room-append at xs ws ys h = rw (length-append xs ws) (omega arith)
 
-  pub over-append : (at : ℕ) (xs ws ys : List A) → at + length xs ≤ length ys → over (at + length xs) ws (over at xs ys) ≡ over at (xs ++ ws) ys
+  over-inside : (at : ℕ) (xs ws ys : List A) → at + length xs ≤ length ys → over (at + length xs) ws (over at xs ys) ≡ over at (xs ++ ws) ys
   unfolding over
-  over-append at xs ws ys h =
+  over-inside at xs ws ys h =
       let n = length xs in
       let a : room at xs ys ≡ n = omega arith in
       let b : room (at + n) ws (paste ys at xs n) ≡ room (at + n) ws ys = rw (length-paste ys at xs n h (omega arith)) refl in
@@ -71,6 +66,19 @@ module _ {A : Type 0} where
       let c = room-append at xs ws ys h in
       let t : take (n + m) (xs ++ ws) ≡ take n xs ++ take m ws = take-append-add xs ws m ∙ rw (take-length xs) refl in
       rw (a, b, c) (paste-paste xs ws ys at n m (omega arith) (omega arith) t)
+
+  -- what has no room makes no difference
+  pub over-full : (at : ℕ) (xs ws ys : List A) → length ys ≤ at + length xs → over at (xs ++ ws) ys ≡ over at xs ys
+  unfolding over
+  over-full at xs ws ys h =
+      let a : room at (xs ++ ws) ys ≡ room at xs ys = rw (length-append xs ws) (omega arith) in
+      rw (a, take-append-le (room at xs ys) xs ws (omega arith)) refl
+
+  pub over-append : (at : ℕ) (xs ws ys : List A) → over (at + length xs) ws (over at xs ys) ≡ over at (xs ++ ws) ys
+  over-append at xs ws ys = ⊎-elim (λ h. past (omega arith)) (over-inside at xs ws ys) (below (length ys) (at + length xs))
+    where
+      past : length ys ≤ at + length xs → over (at + length xs) ws (over at xs ys) ≡ over at (xs ++ ws) ys
+      past h = over-past (at + length xs) ws (over at xs ys) (rw (length-over at xs ys) h) ∙ sym (over-full at xs ws ys h)
 
 -- ---- the loop: i places are written
 

@@ -1,14 +1,15 @@
 -- The first number whose case holds: there is one at most, and a check that goes by the cases in turn finds it. Assumes nothing.
 use Prim.Native.Nat.{ℕ, _≤_, _<_}
-use mathlib.Core.Path.{_≡_, refl, sym, _∙_}
+use mathlib.Core.Path.{_≡_, refl}
 use mathlib.Core.Bool.{Bool, true, false, cond}
 use mathlib.Core.List.{List, [], _∷_}
 use mathlib.Core.Logic.{_⊎_, inl, inr}
+use borrow.Author.Needs.{needs}
 use borrow.Author.Tests.{eqb-true, eqb-false, eq-eqb, ne-eqb, ltb-true, ltb-false}
 use lib.Dec.{eqb, ltb}
-use Rattle.words.specs.Rows.{_then_, First, none, here, later, Only, Exactly}
+use Rattle.words.specs.Rows.{_then_, First, none, here, later, Exactly}
 
--- ---- a test of two numbers, decided
+-- ---- two numbers, decided
 
 pub below : (a b : ℕ) → (a < b) ⊎ (b ≤ a)
 below a b = go (ltb a b) refl
@@ -16,6 +17,13 @@ below a b = go (ltb a b) refl
     go : (t : Bool) → ltb a b ≡ t → (a < b) ⊎ (b ≤ a)
     go true e = inl (ltb-true a b e)
     go false e = inr (ltb-false a b e)
+
+pub same : (a b : ℕ) → (a ≡ b) ⊎ (a ≡ b → ⊥)
+same a b = go (eqb a b) refl
+  where
+    go : (t : Bool) → eqb a b ≡ t → (a ≡ b) ⊎ (a ≡ b → ⊥)
+    go true e = inl (eqb-true a b e)
+    go false e = inr (eqb-false a b e)
 
 -- ---- the first refusal of two
 
@@ -33,14 +41,7 @@ none-then a b h = rw (eq-eqb a 0 h) refl
 pub some-then : (a b : ℕ) → (a ≡ 0 → ⊥) → a ≡ (a then b)
 some-then a b h = rw (ne-eqb a 0 h) refl
 
--- a choice that is none goes the way that is not a refusal
-pub not-taken : {x y : ℕ} (b : Bool) → (x ≡ 0 → ⊥) → cond b x y ≡ 0 → (b ≡ false) × (y ≡ 0)
-not-taken true d h = absurd (d h)
-not-taken false d h = (refl, h)
-
-pub taken : {x : ℕ} (b : Bool) → (x ≡ 0 → ⊥) → cond b 0 x ≡ 0 → b ≡ true
-taken true d h = refl
-taken false d h = absurd (d h)
+pub ruleset thens = (none-then, some-then, needs)
 
 -- ---- the first number of a list
 
@@ -87,9 +88,3 @@ first-then d (no q) f = later q (f q)
 pub first-last : {case : ℕ → Type 0} {n x : ℕ} → Step (case n) n x → First case (n ∷ []) x
 first-last (yes p) = here p
 first-last (no q) = later q none
-
--- the same for tests in turn
-pub first-if : {case : ℕ → Type 0} {n : ℕ} {ns : List ℕ} {y : ℕ} (b : Bool) → (b ≡ true → case n) → (b ≡ false → case n → ⊥) → First case ns y
-    → First case (n ∷ ns) (cond b n y)
-first-if true p q f = here (p refl)
-first-if false p q f = later (q refl) f

@@ -1,5 +1,5 @@
 -- Which words are NaNs, and that every other word comes back from binary32. Assumes nothing.
-use mathlib.Core.Path.{_≡_, refl, sym, subst, ap, _∙_}
+use mathlib.Core.Path.{_≡_, refl, sym, subst, _∙_}
 use mathlib.Core.Bool.{Bool, true, false, not}
 use Prim.Native.Nat.{ℕ, _+_, _-_, _%_, _≤_, _<_}
 use mathlib.Core.List.{List}
@@ -10,7 +10,7 @@ use lib.Ieee.{Float, nan, inf, fin, binary32, ofBits, toBits, nanBits, isNan, ne
 use lib.Ieee.Bits.{nanBits-is, nanBits-above, toBits-ofBits}
 use lib.ListN.{length, getD, List·getD-eq-default}
 use borrow.Author.Needs.{needs}
-use borrow.Author.Tests.{lt-ltb, le-ltb, eqb-true}
+use borrow.Author.Tests.{lt-ltb, le-ltb, eqb-true, eq-eqb, ne-eqb}
 use Rattle.words.specs.Word.{wordOf, wordFrom, writtenNan, otherNan}
 
 pub not-nan : (x : Float) → ne x x ≡ false → T (not (isNan x))
@@ -34,6 +34,14 @@ above w h = is-nan (ofBits binary32 w) (nan-test w ∙ lt-ltb 0x7f80_0000 (w % 0
 
 pub below : (w : ℕ) → w % 0x8000_0000 ≤ 0x7f80_0000 → T (not (nanBits binary32 w))
 below w h = rw (nanBits-above binary32 w, le-ltb 0x7f80_0000 (w % 0x8000_0000) h) tt
+
+pub written-nan : (w : ℕ) → w ≡ 0x7fc0_0000 → false ≡ otherNan w
+written-nan w e = rw (eq-eqb w writtenNan e) refl
+
+pub any-nan : (w : ℕ) → (w ≡ 0x7fc0_0000 → ⊥) → ltb 0x7f80_0000 (w % 0x8000_0000) ≡ otherNan w
+any-nan w d = rw (ne-eqb w writtenNan d) (sym (nan-test w))
+
+pub ruleset nans = (written-nan, any-nan, needs)
 
 -- there is nothing past the end
 pub past-start : (s : List ℕ) (at k : ℕ) → length s ≤ at → 0 ≡ getD s (at + k) 0

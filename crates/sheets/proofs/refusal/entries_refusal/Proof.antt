@@ -2,7 +2,7 @@ use mathlib.Core.Path.{_≡_}
 use Prim.Native.Nat.{_≤_, _-_}
 use Rattle.sheets.specs.Refusal.{firstRefusal}
 use Rattle.sheets.specs.Sheet.{refusalAt}
-use Rattle.sheets.proofs.Checks.{checks}
+use Rattle.sheets.proofs.Checks.{steps}
 use Rattle.sheets.proofs.refusal.entries_refusal.Statement.{statement}
 use Rattle.sheets.proofs.refusal.entries_refusal.Tie as tie
 
@@ -18,10 +18,10 @@ entries-refusal-spec =
     (tie.spec
     Inv-loop
     μ-loop
-    (λ c. search checks)
-    (λ c κs. search checks)
-    (λ c. search checks)
-    (λ c. search checks)
-    (λ c. search checks)
-    (λ c. search checks)
-    (λ c. search checks))
+    (λ c. search steps)
+    (λ c κs. search steps)
+    (λ c. search steps)
+    (λ c. search steps)
+    (λ c. search steps)
+    (λ c. search steps)
+    (λ c. search steps))

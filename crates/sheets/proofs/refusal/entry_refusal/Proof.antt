@@ -1,6 +1,11 @@
 use borrow.Author.Needs.{needs}
+use Rattle.sheets.specs.Refusal.{entryRefusal}
 use Rattle.sheets.proofs.refusal.entry_refusal.Statement.{statement}
 use Rattle.sheets.proofs.refusal.entry_refusal.Tie as tie
+
+returns : tie.Need-returns
+unfolding entryRefusal
+returns c = cc
 
 pub entry-refusal-spec : {M : Type 1} → statement M
 entry-refusal-spec =
@@ -13,4 +18,4 @@ entry-refusal-spec =
     (λ c κs. search needs)
     (λ c κs. search needs)
     (λ c κs. search needs)
-    (λ c. cc))
+    returns)

@@ -1,4 +1,4 @@
-use Rattle.sheets.proofs.Checks.{checks}
+use Rattle.sheets.proofs.Checks.{lookups}
 use Rattle.sheets.proofs.refusal.lookup.Statement.{statement}
 use Rattle.sheets.proofs.refusal.lookup.Tie as tie
 
@@ -6,11 +6,11 @@ pub lookup-spec : {M : Type 1} → statement M
 lookup-spec =
     tie.close
     (tie.spec
-    (λ c κs. search checks)
-    (λ c. search checks)
-    (λ c. search checks)
-    (λ c. search checks)
-    (λ c. search checks)
-    (λ c κs. search checks)
-    (λ c κs. search checks)
-    (λ c. search checks))
+    (λ c κs. search lookups)
+    (λ c. search lookups)
+    (λ c. search lookups)
+    (λ c. search lookups)
+    (λ c. search lookups)
+    (λ c κs. search lookups)
+    (λ c κs. search lookups)
+    (λ c. search lookups))

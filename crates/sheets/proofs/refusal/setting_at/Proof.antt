@@ -1,4 +1,4 @@
-use Rattle.sheets.proofs.Checks.{checks}
+use Rattle.sheets.proofs.Checks.{lookups}
 use Rattle.sheets.proofs.refusal.setting_at.Statement.{statement}
 use Rattle.sheets.proofs.refusal.setting_at.Tie as tie
 
@@ -6,11 +6,11 @@ pub setting-at-spec : {M : Type 1} → statement M
 setting-at-spec =
     tie.close
     (tie.spec
-    (λ c. search checks)
-    (λ c. search checks)
-    (λ c. search checks)
-    (λ c. search checks)
-    (λ c. search checks)
-    (λ c. search checks)
-    (λ c. search checks)
-    (λ c. search checks))
+    (λ c. search lookups)
+    (λ c. search lookups)
+    (λ c. search lookups)
+    (λ c. search lookups)
+    (λ c. search lookups)
+    (λ c. search lookups)
+    (λ c. search lookups)
+    (λ c. search lookups))
