@@ -1,18 +1,18 @@
 -- The laws of a filter's loop, once for every form and any state: each buffer form's proof cites them. Assumes nothing.
 use mathlib.Core.Path.{_≡_, refl, sym, ap, _∙_}
-use mathlib.Core.Bool.{Bool, true, false, cond}
-use mathlib.Core.List.{List, [], _∷_, _++_, append-assoc, append-nil}
+use mathlib.Core.Bool.{Bool, true, false}
+use mathlib.Core.List.{List, [], _∷_, _++_, append-assoc}
 use Prim.Native.Nat.{ℕ, zero, suc, _+_, _-_, _%_, _≤_, _<_, min}
 use native.Mathlib.Numerals.{add-one}
 use native.Mathlib.Omega.{arith}
 use native.Mathlib.Nat.{mod-add-mod, mod-eq-of-lt, add-mod-right, add-zero, add-suc, zero-add, zero-mod}
 use borrow.Author.Needs.{needs}
 use borrow.Author.Tests.{eq-eqb, ne-eqb, ltb-true, ltb-false}
-use lib.Dec.{eqb, ltb}
+use lib.Dec.{ltb}
 use lib.Ieee.{Float, binary32, nan, mul}
 use lib.ListN.{length, getD, set, take, drop, length-set, length-take, take-append-drop, drop-of-length-le}
-use lib.Seq.{set-getD, take-length, take-take, take-suc-set, take-suc, drop-cons, drop-drop, drop-set-lt, getD-take, getD-drop, length-take-le, take-all}
-use Rattle.filter_core.specs.Buffer.{within, stateAfter, bufferAfter, Filtered, each, puts, due, eachDue, putsDue}
+use lib.Seq.{take-take, take-suc-set, take-suc, drop-cons, drop-drop, drop-set-lt, getD-take, getD-drop, length-take-le, take-all}
+use Rattle.filter_core.specs.Buffer.{within, stateAfter, bufferAfter, Filtered, each, due, eachDue, putsDue}
 use Rattle.filter_core.specs.Refusal.{Answered, stepRefusal}
 use Rattle.filter_core.proofs.Refusals.{refusing, accepting, zero-is}
 

@@ -7,7 +7,7 @@ use mathlib.Core.List.{List}
 use lib.Ieee.{Float}
 use borrow.Author.Tests.{le-leb, lt-leb}
 use Rattle.filter_core.specs.Buffer.{Filtered}
-use Rattle.filter_core.specs.Refusal.{Answered, stepRefusal, frequencyRefusal, unlessRefused}
+use Rattle.filter_core.specs.Refusal.{Answered, stepRefusal, frequencyRefusal}
 use Rattle.filter_core.specs.declared.FrequencyApproximation.{FrequencyApproximation}
 use Rattle.filter_core.proofs.Refusals.{refusing, accepting, zero-is, stays, goes}
 use Rattle.filter_fields.specs.Numbers.{approximationOf, unknownRefusal, firstRefusal}

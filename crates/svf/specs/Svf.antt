@@ -1,7 +1,6 @@
 -- The zero-delay-feedback state-variable filter, by the source's equations.
-use mathlib.Core.Bool.{cond}
-use lib.Ieee.{Float, lt}
-use Rattle.filter_core.specs.Arithmetic.{_+ᶠ_, _-ᶠ_, _*ᶠ_, _/ᶠ_, negᶠ, word, zeroᶠ, halfᶠ, oneᶠ, twoᶠ}
+use lib.Ieee.{Float}
+use Rattle.filter_core.specs.Arithmetic.{_+ᶠ_, _-ᶠ_, _*ᶠ_, _/ᶠ_, word, zeroᶠ, oneᶠ}
 use Rattle.filter_core.specs.Mode.{byMode}
 use Rattle.filter_core.specs.declared.FilterMode.{FilterMode}
 use Rattle.filter_core.specs.declared.FrequencyApproximation.{FrequencyApproximation}

@@ -1,6 +1,6 @@
 -- The polynomials' coefficients, which the compiler folds to one word each. Assumes nothing.
 use mathlib.Core.Path.{_≡_, refl}
-use lib.Ieee.{Float, mul, ofBits}
+use lib.Ieee.{mul, ofBits}
 use Rattle.filter_core.specs.Arithmetic.{word}
 use Rattle.tangent.specs.Tangent.{dirtyA, fastA, fastB, accurateA, accurateB, accurateC, accurateD, accurateE}
 

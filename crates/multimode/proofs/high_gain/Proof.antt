@@ -1,4 +1,3 @@
-use lib.Ieee.{ofBits, neg}
 use Rattle.multimode.proofs.high_gain.Statement.{statement}
 use Rattle.multimode.proofs.high_gain.Tie as tie
 

@@ -1,8 +1,7 @@
 use borrow.Author.Needs.{needs}
 use Prim.Native.Nat.{_-_}
-use Rattle.filter_core.specs.Buffer.{each, puts}
-use Rattle.filter_core.proofs.Passes.{Going, Leaping, passing}
-use Rattle.svf.specs.Svf.{svfNext, svfOut, svfGained, svfMixed}
+use Rattle.filter_core.proofs.Passes.{Leaping, passing}
+use Rattle.svf.specs.Svf.{svfNext, svfOut}
 use Rattle.svf.proofs.Svf.stride_buffer.Statement.{statement}
 use Rattle.svf.proofs.Svf.stride_buffer.Tie as tie
 

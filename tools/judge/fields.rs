@@ -1,28 +1,28 @@
 
-// A filter made of words, in the order of its fields, and read as words: the fields are private to this file.
-macro_rules! words {
+// A filter made from its fields, in their order, and read as them: the fields are private to this file.
+macro_rules! fields {
     ($type:ident, $n:literal, $($field:ident),+) => {
         impl $type {
-            pub fn of_words(w: [f32; $n]) -> Self {
+            pub fn from_fields(w: [f32; $n]) -> Self {
                 let [$($field),+] = w;
                 Self { $($field),+ }
             }
 
-            pub fn words(&self) -> [f32; $n] {
+            pub fn fields(&self) -> [f32; $n] {
                 [$(self.$field),+]
             }
         }
     };
 }
 
-words!(DcBlocker, 3, pole, x, y);
-words!(OnePole, 3, g, gi, state);
-words!(Svf, 5, g, r, h, state_1, state_2);
-words!(NaiveSvf, 4, f, damp, lp, bp);
-words!(ModifiedSvf, 5, f, fq, x, lp, bp);
+fields!(DcBlocker, 3, pole, x, y);
+fields!(OnePole, 3, g, gi, state);
+fields!(Svf, 5, g, r, h, state_1, state_2);
+fields!(NaiveSvf, 4, f, damp, lp, bp);
+fields!(ModifiedSvf, 5, f, fq, x, lp, bp);
 
 impl CrossoverSvf {
-    pub fn of_words(w: [f32; 8]) -> Self {
+    pub fn from_fields(w: [f32; 8]) -> Self {
         Self {
             f: w[0],
             fq: w[1],
@@ -32,7 +32,7 @@ impl CrossoverSvf {
         }
     }
 
-    pub fn words(&self) -> [f32; 8] {
+    pub fn fields(&self) -> [f32; 8] {
         let Self { f, fq, x, lp, bp } = self;
         [*f, *fq, x[0], x[1], lp[0], lp[1], bp[0], bp[1]]
     }
