@@ -292,50 +292,52 @@ pub(crate) fn sample(
     }
 }
 
-fn svf_buffers(
+fn svf_form(
     method: u32,
     t: Settings,
-    w: &mut [f32; 8],
+    s: &mut [f32; 5],
     in_: &[f32],
     out_1: &mut [f32],
     out_2: &mut [f32],
 ) -> u8 {
-    let mut s = five(w);
-    let number = match method {
-        130 => svf_calls::svf_process_buffer(&mut s, in_, out_1, t.a),
-        131 => svf_calls::svf_process_add_buffer(&mut s, in_, out_1, t.p, t.a),
-        132 => svf_calls::svf_process_stride_buffer(&mut s, in_, out_1, t.step, t.a),
-        133 => {
-            svf_calls::svf_process_multimode_buffer(&mut s, in_, out_1, t.p);
-            0
-        }
-        134 => svf_calls::svf_process_add_dual_buffer(&mut s, in_, out_1, out_2, t.p, t.q, t.a),
-        _ => NO_METHOD,
-    };
-    put_five(w, s);
-    number
+    if method == 130 {
+        return svf_calls::svf_process_buffer(s, in_, out_1, t.a);
+    }
+    if method == 131 {
+        return svf_calls::svf_process_add_buffer(s, in_, out_1, t.p, t.a);
+    }
+    if method == 132 {
+        return svf_calls::svf_process_stride_buffer(s, in_, out_1, t.step, t.a);
+    }
+    if method == 133 {
+        svf_calls::svf_process_multimode_buffer(s, in_, out_1, t.p);
+        return 0;
+    }
+    if method == 134 {
+        return svf_calls::svf_process_add_dual_buffer(s, in_, out_1, out_2, t.p, t.q, t.a);
+    }
+    NO_METHOD
 }
 
-fn naive_svf_buffers(
+fn naive_svf_form(
     method: u32,
     t: Settings,
-    w: &mut [f32; 8],
+    s: &mut [f32; 4],
     in_: &[f32],
     out_1: &mut [f32],
     out_2: &mut [f32],
 ) -> u8 {
-    let mut s = four(w);
-    let number = match method {
-        150 => naive_svf_calls::naive_svf_process_buffer(&mut s, in_, out_1, t.a),
-        151 => {
-            naive_svf_calls::naive_svf_split(&mut s, in_, out_1, out_2);
-            0
-        }
-        152 => naive_svf_calls::naive_svf_process_decimate(&mut s, in_, out_1, t.step, t.a),
-        _ => NO_METHOD,
-    };
-    put_four(w, s);
-    number
+    if method == 150 {
+        return naive_svf_calls::naive_svf_process_buffer(s, in_, out_1, t.a);
+    }
+    if method == 151 {
+        naive_svf_calls::naive_svf_split(s, in_, out_1, out_2);
+        return 0;
+    }
+    if method == 152 {
+        return naive_svf_calls::naive_svf_process_decimate(s, in_, out_1, t.step, t.a);
+    }
+    NO_METHOD
 }
 
 fn dc_blocker_buffer(w: &mut [f32; 8], in_out: &mut [f32]) -> u8 {
@@ -352,6 +354,34 @@ fn modified_svf_buffer(t: Settings, w: &mut [f32; 8], in_: &[f32], out: &mut [f3
     number
 }
 
+fn svf_buffers(
+    method: u32,
+    t: Settings,
+    w: &mut [f32; 8],
+    in_: &[f32],
+    out_1: &mut [f32],
+    out_2: &mut [f32],
+) -> u8 {
+    let mut s = five(w);
+    let number = svf_form(method, t, &mut s, in_, out_1, out_2);
+    put_five(w, s);
+    number
+}
+
+fn naive_svf_buffers(
+    method: u32,
+    t: Settings,
+    w: &mut [f32; 8],
+    in_: &[f32],
+    out_1: &mut [f32],
+    out_2: &mut [f32],
+) -> u8 {
+    let mut s = four(w);
+    let number = naive_svf_form(method, t, &mut s, in_, out_1, out_2);
+    put_four(w, s);
+    number
+}
+
 fn whole(
     method: u32,
     t: Settings,
@@ -360,14 +390,19 @@ fn whole(
     out_1: &mut [f32],
     out_2: &mut [f32],
 ) -> u8 {
-    match method {
-        110 => dc_blocker_buffer(w, out_1),
-        130..=149 => svf_buffers(method, t, w, in_, out_1, out_2),
-        150..=159 => naive_svf_buffers(method, t, w, in_, out_1, out_2),
-        160 => modified_svf_buffer(t, w, in_, out_1),
-        170 => crossover_svf_calls::crossover_svf_process(w, in_, out_1, t.a),
-        _ => NO_METHOD,
+    if method == 110 {
+        return dc_blocker_buffer(w, out_1);
     }
+    if method == 160 {
+        return modified_svf_buffer(t, w, in_, out_1);
+    }
+    if method == 170 {
+        return crossover_svf_calls::crossover_svf_process(w, in_, out_1, t.a);
+    }
+    if method < 150 {
+        return svf_buffers(method, t, w, in_, out_1, out_2);
+    }
+    naive_svf_buffers(method, t, w, in_, out_1, out_2)
 }
 
 // A buffer form, over parts of its buffers.

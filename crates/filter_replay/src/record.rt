@@ -33,16 +33,19 @@ fn float_at(w: &[u32; 68], at: usize) -> f32 {
 
 // Eight words from the place `at` on, as floats; 0 past the end.
 pub(crate) fn eight(w: &[u32; 68], at: usize) -> [f32; 8] {
-    let mut x = [0.0; 8];
     if 60 < at {
-        return x;
+        return [0.0; 8];
     }
-    let mut i = 0usize;
-    while i < 8 {
-        x[i] = float_at(w, at + i);
-        i += 1;
-    }
-    x
+    [
+        float_at(w, at),
+        float_at(w, at + 1),
+        float_at(w, at + 2),
+        float_at(w, at + 3),
+        float_at(w, at + 4),
+        float_at(w, at + 5),
+        float_at(w, at + 6),
+        float_at(w, at + 7),
+    ]
 }
 
 // Whether a float is the word at a place.
@@ -59,11 +62,10 @@ pub(crate) fn same(x: &[f32; 8], w: &[u32; 68], at: usize) -> bool {
         return false;
     }
     let mut i = 0usize;
+    let mut all = true;
     while i < 8 {
-        if !is(x[i], w, at + i) {
-            return false;
-        }
+        all = all && is(x[i], w, at + i);
         i += 1;
     }
-    true
+    all
 }
