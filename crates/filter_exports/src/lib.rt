@@ -11,7 +11,7 @@ pub mod svf_calls;
 
 // The refusal of a number that names no mode, or no approximation. The refusal table of document 01 does not have it: there a mode is
 // one of four.
-pub const UNKNOWN: u8 = 100;
+pub(crate) const UNKNOWN: u8 = 100;
 
 // The largest number that names a mode, or an approximation.
-pub const LAST: u8 = 3;
+pub(crate) const LAST: u8 = 3;

@@ -26,7 +26,7 @@ onePoleSetF s f a = onePoleSetG s (tanOf f a)
 abbrev pub onePoleInit : OnePole → OnePole
 onePoleInit s = onePoleReset (onePoleSetF s (word 0x3c23_d70a) Dirty)
 
-abbrev pub onePoleLow : OnePole → Float → Float
+abbrev onePoleLow : OnePole → Float → Float
 onePoleLow s x = (s .g *ᶠ x +ᶠ s .state) *ᶠ s .gi
 
 -- the filter after the sample x

@@ -12,7 +12,7 @@ abbrev pub clipAt : Float → Float → Float
 clipAt limit f = cond (lt f limit) f limit
 
 -- 4.3.97: 1, -0.1666666664, 0.0083333315, -0.0001984090, 0.0000027526, -0.0000000239
-abbrev pub sineRow : List Float
+abbrev sineRow : List Float
 sineRow = oneᶠ ∷ word 0xbe2a_aaab ∷ word 0x3c08_8887 ∷ word 0xb950_0c03 ∷ word 0x3638_b94f ∷ word 0xb2cd_4ca8 ∷ []
 
 abbrev pub sineSeries : Float → Float

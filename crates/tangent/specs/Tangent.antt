@@ -14,7 +14,7 @@ abbrev pub clip : Float → Float
 clip f = cond (lt f (word 0x3efe_76c9)) f (word 0x3efe_76c9)
 
 -- 4.3.101: 1, 0.3333314036, 0.1333923995, 0.0533740603, 0.0245650893, 0.0029005250, 0.0095168091
-abbrev pub tangentRow : List Float
+abbrev tangentRow : List Float
 tangentRow =
     oneᶠ ∷ word 0x3eaa_aa6a ∷ word 0x3e08_9804 ∷ word 0x3d5a_9ec2 ∷ word 0x3cc9_3cba ∷ word 0x3b3e_16bc ∷ word 0x3c1b_ec64 ∷ []
 
@@ -28,22 +28,22 @@ tangent f = cond (le f (word 0x3e80_0000)) (tanSeries (πᶠ *ᶠ f)) (oneᶠ /�
 
 -- ---- the source's polynomials
 
-abbrev pub π² : Float
+abbrev π² : Float
 π² = πᶠ *ᶠ πᶠ
 
-abbrev pub π³ : Float
+abbrev π³ : Float
 π³ = π² *ᶠ πᶠ
 
-abbrev pub π⁵ : Float
+abbrev π⁵ : Float
 π⁵ = π³ *ᶠ π²
 
-abbrev pub π⁷ : Float
+abbrev π⁷ : Float
 π⁷ = π⁵ *ᶠ π²
 
-abbrev pub π⁹ : Float
+abbrev π⁹ : Float
 π⁹ = π⁷ *ᶠ π²
 
-abbrev pub π¹¹ : Float
+abbrev π¹¹ : Float
 π¹¹ = π⁹ *ᶠ π²
 
 -- 0.3736
