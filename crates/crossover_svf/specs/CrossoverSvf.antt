@@ -37,7 +37,7 @@ abbrev pub between : FilterMode → CrossoverSvf → Float → Float
 between m s x = modifiedOut m (pass 0 s) x
 
 -- two passes as one filter
-abbrev joined : CrossoverSvf → ModifiedSvf → ModifiedSvf → CrossoverSvf
+abbrev pub joined : CrossoverSvf → ModifiedSvf → ModifiedSvf → CrossoverSvf
 joined s a b = record { f = s .f; fq = s .fq; x = a .x ∷ b .x ∷ []; lp = a .lp ∷ b .lp ∷ []; bp = a .bp ∷ b .bp ∷ [] }
 
 -- the filter after the sample x
