@@ -43,8 +43,8 @@ pub enum FrequencyApproximation {
     Dirty,
 }
 
-// A filter as the words of its fields, in their order, which is how the exported functions take it: `repr(C)` lays it out so.
-macro_rules! words {
+// A filter as the array of its fields, in their order, which is how the exported functions take it: `repr(C)` lays it out so.
+macro_rules! fields {
     ($type:ident, $n:literal, $($field:ident),+) => {
         impl $type {
             fn state(&mut self) -> *mut [f32; $n] {
@@ -52,13 +52,13 @@ macro_rules! words {
             }
 
             #[doc(hidden)]
-            pub fn of_words(w: [f32; $n]) -> Self {
+            pub fn from_fields(w: [f32; $n]) -> Self {
                 let [$($field),+] = w;
                 Self { $($field),+ }
             }
 
             #[doc(hidden)]
-            pub fn words(&self) -> [f32; $n] {
+            pub fn fields(&self) -> [f32; $n] {
                 [$(self.$field),+]
             }
         }
@@ -74,7 +74,7 @@ pub struct DcBlocker {
     y: f32,
 }
 
-words!(DcBlocker, 3, pole, x, y);
+fields!(DcBlocker, 3, pole, x, y);
 
 impl DcBlocker {
     /// All fields 0.
@@ -111,7 +111,7 @@ pub struct OnePole {
     state: f32,
 }
 
-words!(OnePole, 3, g, gi, state);
+fields!(OnePole, 3, g, gi, state);
 
 impl OnePole {
     /// All fields 0.
@@ -185,7 +185,7 @@ pub struct Svf {
     state_2: f32,
 }
 
-words!(Svf, 5, g, r, h, state_1, state_2);
+fields!(Svf, 5, g, r, h, state_1, state_2);
 
 impl Svf {
     /// All fields 0.
@@ -464,7 +464,7 @@ pub struct NaiveSvf {
     bp: f32,
 }
 
-words!(NaiveSvf, 4, f, damp, lp, bp);
+fields!(NaiveSvf, 4, f, damp, lp, bp);
 
 impl NaiveSvf {
     /// All fields 0.
@@ -628,7 +628,7 @@ pub struct ModifiedSvf {
     bp: f32,
 }
 
-words!(ModifiedSvf, 5, f, fq, x, lp, bp);
+fields!(ModifiedSvf, 5, f, fq, x, lp, bp);
 
 impl ModifiedSvf {
     /// All fields 0.
@@ -697,7 +697,7 @@ impl CrossoverSvf {
     }
 
     #[doc(hidden)]
-    pub fn of_words(w: [f32; 8]) -> Self {
+    pub fn from_fields(w: [f32; 8]) -> Self {
         Self {
             f: w[0],
             fq: w[1],
@@ -708,7 +708,7 @@ impl CrossoverSvf {
     }
 
     #[doc(hidden)]
-    pub fn words(&self) -> [f32; 8] {
+    pub fn fields(&self) -> [f32; 8] {
         let Self { f, fq, x, lp, bp } = self;
         [*f, *fq, x[0], x[1], lp[0], lp[1], bp[0], bp[1]]
     }

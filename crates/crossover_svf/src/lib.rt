@@ -4,7 +4,7 @@ use filter_core::FilterMode;
 use modified_svf::ModifiedSvf;
 ghost use mathlib.Core.Path.{_≡_};
 ghost use Rattle.filter_core.specs.Buffer.{Filtered, within, each, puts};
-ghost use Rattle.crossover_svf.specs.CrossoverSvf.{crossoverNew, crossoverInit, crossoverReset, crossoverSetFFq, crossoverNext, crossoverOut};
+ghost use Rattle.crossover_svf.specs.CrossoverSvf.{crossoverNew, crossoverInit, crossoverReset, crossoverSetFFq, pass, joined, crossoverNext, crossoverOut};
 
 // The members of x, lp and bp are those of the first and of the second pass.
 pub struct CrossoverSvf {
@@ -68,37 +68,50 @@ impl CrossoverSvf {
         }
     }
 
+    // The first pass as a filter of its own, and the second.
+    fn first(self) -> ModifiedSvf
+        ensures { λ r. ⌜ r ≡ pass 0 self ⌝ }
+    {
+        ModifiedSvf {
+            f: self.f,
+            fq: self.fq,
+            x: self.x[0],
+            lp: self.lp[0],
+            bp: self.bp[0],
+        }
+    }
+
+    fn second(self) -> ModifiedSvf
+        ensures { λ r. ⌜ r ≡ pass 1 self ⌝ }
+    {
+        ModifiedSvf {
+            f: self.f,
+            fq: self.fq,
+            x: self.x[1],
+            lp: self.lp[1],
+            bp: self.bp[1],
+        }
+    }
+
+    fn joined(self, a: ModifiedSvf, b: ModifiedSvf) -> Self
+        ensures { λ r. ⌜ r ≡ joined self a b ⌝ }
+    {
+        Self {
+            f: self.f,
+            fq: self.fq,
+            x: [a.x, b.x],
+            lp: [a.lp, b.lp],
+            bp: [a.bp, b.bp],
+        }
+    }
+
     // One sample, through both passes.
     fn process_sample(self, in_: f32, mode: FilterMode) -> CrossoverSvfOut
         ensures { λ r. ⌜ (r .filter ≡ crossoverNext mode self «in_») × (r .out ≡ crossoverOut mode self «in_») ⌝ }
     {
-        let f = self.f;
-        let fq = self.fq;
-        let first = ModifiedSvf {
-            f: f,
-            fq: fq,
-            x: self.x[0],
-            lp: self.lp[0],
-            bp: self.bp[0],
-        };
-        let second = ModifiedSvf {
-            f: f,
-            fq: fq,
-            x: self.x[1],
-            lp: self.lp[1],
-            bp: self.bp[1],
-        };
-        let a = first.process_sample(in_, mode);
-        let b = second.process_sample(a.out, mode);
-        let p = a.filter;
-        let q = b.filter;
-        let filter = Self {
-            f: f,
-            fq: fq,
-            x: [p.x, q.x],
-            lp: [p.lp, q.lp],
-            bp: [p.bp, q.bp],
-        };
+        let a = self.first().process_sample(in_, mode);
+        let b = self.second().process_sample(a.out, mode);
+        let filter = self.joined(a.filter, b.filter);
         CrossoverSvfOut {
             filter: filter,
             out: b.out,
@@ -114,8 +127,7 @@ impl CrossoverSvf {
         while i < n {
             let t = f.process_sample(in_[i], mode);
             out[i] = t.out;
-            let next = t.filter;
-            f = next;
+            f = t.filter;
             i += 1;
         }
         f

@@ -1,19 +1,20 @@
 -- The laws of a filter's loop, once for every form and any state: each buffer form's proof cites them. Assumes nothing.
 use mathlib.Core.Path.{_≡_, refl, sym, ap, _∙_}
-use mathlib.Core.Bool.{Bool, true, false, cond}
-use mathlib.Core.List.{List, [], _∷_, _++_, append-assoc, append-nil}
+use mathlib.Core.Bool.{Bool, true, false}
+use mathlib.Core.List.{List, [], _∷_, _++_, append-assoc}
 use Prim.Native.Nat.{ℕ, zero, suc, _+_, _-_, _%_, _≤_, _<_, min}
 use native.Mathlib.Numerals.{add-one}
 use native.Mathlib.Omega.{arith}
 use native.Mathlib.Nat.{mod-add-mod, mod-eq-of-lt, add-mod-right, add-zero, add-suc, zero-add, zero-mod}
 use borrow.Author.Needs.{needs}
 use borrow.Author.Tests.{eq-eqb, ne-eqb, ltb-true, ltb-false}
-use lib.Dec.{eqb, ltb}
+use lib.Dec.{ltb}
 use lib.Ieee.{Float, binary32, nan, mul}
 use lib.ListN.{length, getD, set, take, drop, length-set, length-take, take-append-drop, drop-of-length-le}
-use lib.Seq.{set-getD, take-length, take-take, take-suc-set, take-suc, drop-cons, drop-drop, drop-set-lt, getD-take, getD-drop, length-take-le, take-all}
-use Rattle.filter_core.specs.Buffer.{within, stateAfter, bufferAfter, Filtered, each, puts, due, eachDue, putsDue}
-use Rattle.filter_core.specs.Refusal.{Answered}
+use lib.Seq.{take-take, take-suc-set, take-suc, drop-cons, drop-drop, drop-set-lt, getD-take, getD-drop, length-take-le, take-all}
+use Rattle.filter_core.specs.Buffer.{within, stateAfter, bufferAfter, Filtered, each, due, eachDue, putsDue}
+use Rattle.filter_core.specs.Refusal.{Answered, stepRefusal}
+use Rattle.filter_core.proofs.Refusals.{refusing, accepting, zero-is}
 
 -- the sample at the place k
 abbrev pub at : List Float → ℕ → Float
@@ -139,15 +140,6 @@ module _ {S : Type 0} {next : ℕ → S → Float → S} {put : ℕ → S → Fl
       → Filtered next put s (within (within xs ws) ys) ys f zs
   filtered-second ws g h e = finish g h (within-three xs ws ys n e)
 
-  pub accepted : (d : ℕ) {i : ℕ} {f : S} {zs : List Float} → Going next put xs n s ys i f zs → n ≤ i → n ≡ min (length xs) (length ys) → (d ≡ 0 → ⊥)
-      → Answered d next put s (within xs ys) ys 0 f zs
-  accepted d g h e z = let t : eqb d 0 ≡ false = ne-eqb d 0 z in record { refusal = rw t refl; filtered = rw t (filtered g h e) }
-
--- a form that goes by 0 is refused
-pub refused : {S : Type 0} {next : ℕ → S → Float → S} {put : ℕ → S → Float → Float → Float} {s : S} {xs ys : List Float} (d : ℕ) → d ≡ 0
-    → Answered d next put s xs ys 10 s ys
-refused d z = let t : eqb d 0 ≡ true = eq-eqb d 0 z in record { refusal = rw t refl; filtered = rw t (record { state = refl; buffer = refl }) }
-
 -- ---- in place: what is read at the place i is what stood there at first
 
 module _ {S : Type 0} {next : ℕ → S → Float → S} {put : ℕ → S → Float → Float → Float} {n : ℕ} {s : S} {ys : List Float} where
@@ -186,7 +178,7 @@ module _ {S : Type 0} {d : ℕ} {step : S → Float → S} {out : S → Float �
   pub leap-start : n ≡ min (length xs) (length ys) → Leaping d step out xs n s ys 0 s ys
   leap-start e = record { going = start e; on = λ h. zero-mod d }
 
-  pub leap : {i j : ℕ} {f f′ : S} {zs : List Float} {y : Float} → Leaping d step out xs n s ys i f zs → i < n → (d ≡ 0 → ⊥) → f′ ≡ step f (at xs i) → y ≡ out f (at xs i)
+  pub leap : {i j : ℕ} {f f′ : S} {zs : List Float} {y : Float} → Leaping d step out xs n s ys i f zs → i < n → 0 < d → f′ ≡ step f (at xs i) → y ≡ out f (at xs i)
       → j ≡ min n (i + d) → Leaping d step out xs n s ys j f′ (set zs i y)
   leap {i} {j} {f} {f′} {zs} {y} l h z e o w =
       let now : due d i ≡ true = eq-eqb (i % d) 0 (l .on h) in
@@ -202,11 +194,11 @@ module _ {S : Type 0} {d : ℕ} {step : S → Float → S} {out : S → Float �
         on = λ q. let w : j ≡ i + d = omega arith in rw w turn;
       }
 
-  pub leap-accepted : {i : ℕ} {f : S} {zs : List Float} → Leaping d step out xs n s ys i f zs → n ≤ i → n ≡ min (length xs) (length ys) → (d ≡ 0 → ⊥)
-      → Answered d (eachDue d step) (putsDue d out) s (within xs ys) ys 0 f zs
-  leap-accepted l h e z = accepted d (l .going) h e z
+  pub leap-filtered : {i : ℕ} {f : S} {zs : List Float} → Leaping d step out xs n s ys i f zs → n ≤ i → n ≡ min (length xs) (length ys)
+      → Filtered (eachDue d step) (putsDue d out) s (within xs ys) ys f zs
+  leap-filtered l h e = filtered (l .going) h e
 
-  pub count-start : n ≡ min (length xs) (length ys) → (d ≡ 0 → ⊥) → Counting d step out xs n s ys 0 0 s ys
+  pub count-start : n ≡ min (length xs) (length ys) → 0 < d → Counting d step out xs n s ys 0 0 s ys
   count-start e z = record { going = start e; small = omega arith; on = zero-mod d }
 
   pub count-write : {i m m′ : ℕ} {f f′ : S} {zs : List Float} {y : Float} → Counting d step out xs n s ys i m f zs → i < n → m ≡ 0 → m′ ≡ d - 1
@@ -223,13 +215,32 @@ module _ {S : Type 0} {d : ℕ} {step : S → Float → S} {out : S → Float �
       let turn : i + 1 + m′ ≡ i + m = omega arith in
       record { going = rw add-one (kept (g .going) h e (rw off refl)); small = omega (arith, g .small); on = rw turn (g .on) }
 
-  pub count-accepted : {i m : ℕ} {f : S} {zs : List Float} → Counting d step out xs n s ys i m f zs → n ≤ i → n ≡ min (length xs) (length ys) → (d ≡ 0 → ⊥)
-      → Answered d (each step) (putsDue d out) s (within xs ys) ys 0 f zs
-  count-accepted g h e z = accepted d (g .going) h e z
+  pub count-filtered : {i m : ℕ} {f : S} {zs : List Float} → Counting d step out xs n s ys i m f zs → n ≤ i → n ≡ min (length xs) (length ys)
+      → Filtered (each step) (putsDue d out) s (within xs ys) ys f zs
+  count-filtered g h e = filtered (g .going) h e
+
+-- ---- a form that goes by the step d: number is what the code has of its refusal
+
+-- a step that is not refused
+pub some-step : {d number : ℕ} → number ≡ stepRefusal d → number ≡ 0 → 0 < d
+some-step {d} r z = go (ltb 0 d) refl
+  where
+    go : (b : Bool) → ltb 0 d ≡ b → 0 < d
+    go true q = ltb-true 0 d q
+    go false q =
+        let h : d ≡ 0 = omega (arith, ltb-false 0 d q) in
+        let e : _≡_ {A = ℕ} 0 10 = zero-is r z ∙ rw (eq-eqb d 0 h) in omega arith
+
+module _ {S : Type 0} {d : ℕ} {next : ℕ → S → Float → S} {put : ℕ → S → Float → Float → Float} {s : S} {xs ys : List Float} {number : ℕ} (r : number ≡ stepRefusal d) where
+  pub refused : (number ≡ 0 → ⊥) → Answered d next put s xs ys number s ys
+  refused z = record { refusal = r; filtered = rw (refusing number (stepRefusal d) r z) (record { state = refl; buffer = refl }) }
+
+  pub accepted : {f : S} {zs : List Float} → number ≡ 0 → Filtered next put s xs ys f zs → Answered d next put s xs ys 0 f zs
+  accepted z e = record { refusal = zero-is r z; filtered = rw (accepting number (stepRefusal d) r z) e }
 
 -- of equal floats the products are equal
 pub times : (a b g : Float) → a ≡ b → mul binary32 a g ≡ mul binary32 b g
 times a b g e = rw e refl
 
 -- what `search` is handed at each need of such a loop
-pub ruleset passing = (start, start-first, start-second, again, filtered, filtered-first, filtered-second, refused, place-start, place-again, place-filtered, leap-start, leap, leap-accepted, count-start, count-write, count-keep, count-accepted, times, needs)
+pub ruleset passing = (start, start-first, start-second, again, filtered, filtered-first, filtered-second, place-start, place-again, place-filtered, leap-start, leap, leap-filtered, count-start, count-write, count-keep, count-filtered, some-step, refused, accepted, times, needs)

@@ -3,7 +3,9 @@ use mathlib.Core.Path.{_≡_, sym, _∙_}
 use mathlib.Core.Bool.{true, false}
 use Prim.Native.Nat.{ℕ}
 use lib.Dec.{eqb}
+use borrow.Author.Needs.{needs}
 use borrow.Author.Tests.{eq-eqb, ne-eqb}
+use Rattle.filter_core.specs.Refusal.{stepRefusal, unlessRefused}
 
 module _ (n r : ℕ) (e : n ≡ r) where
   pub refusing : (n ≡ 0 → ⊥) → eqb r 0 ≡ false
@@ -11,3 +13,26 @@ module _ (n r : ℕ) (e : n ≡ r) where
 
   pub accepting : n ≡ 0 → eqb r 0 ≡ true
   accepting z = eq-eqb r 0 (sym e ∙ z)
+
+-- an accepted call's number
+pub zero-is : {n r : ℕ} → n ≡ r → n ≡ 0 → 0 ≡ r
+zero-is e z = sym z ∙ e
+
+module _ {A : Type 0} {n r : ℕ} (was made : A) (e : n ≡ r) where
+  -- what a refused call leaves, and an accepted one
+  pub stays : (n ≡ 0 → ⊥) → was ≡ unlessRefused r was made
+  stays z = rw (refusing n r e z)
+
+  pub goes : {x : A} → n ≡ 0 → x ≡ made → x ≡ unlessRefused r was made
+  goes z x = x ∙ rw (accepting n r e z)
+
+-- the number of a step
+module _ (d : ℕ) where
+  pub no-step : d ≡ 0 → 10 ≡ stepRefusal d
+  no-step z = rw (eq-eqb d 0 z)
+
+  pub a-step : (d ≡ 0 → ⊥) → 0 ≡ stepRefusal d
+  a-step z = rw (ne-eqb d 0 z)
+
+-- what `search` is handed at each need of a call that can be refused
+pub ruleset refusals = (zero-is, stays, goes, needs)

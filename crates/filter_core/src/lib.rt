@@ -1,9 +1,10 @@
-// What the six filters share: their two enums, the length that a buffer form works over, the choice of an output by mode, and the
-// evaluator of a power series.
+// What the six filters share: their two enums, the two refusals, the length that a buffer form works over, the choice of an output by
+// mode, and the evaluator of a power series.
 
 ghost use mathlib.Core.Path.{_≡_};
 ghost use Prim.Native.Nat.{min};
 ghost use Rattle.filter_core.specs.Mode.{byMode};
+ghost use Rattle.filter_core.specs.Refusal.{stepRefusal, frequencyRefusal};
 ghost use Rattle.filter_core.specs.Series.{horner};
 
 pub enum FilterMode {
@@ -18,6 +19,25 @@ pub enum FrequencyApproximation {
     Accurate,
     Fast,
     Dirty,
+}
+
+// The number that a stride or a decimation gets: 10 for 0, or 0.
+pub fn step_refusal(step: usize) -> u8
+    ensures { λ r. ⌜ r ≡ stepRefusal step ⌝ }
+{
+    if step == 0 { 10 } else { 0 }
+}
+
+// The number that a frequency gets: 11 where Exact does not take it, or 0.
+pub fn frequency_refusal(f: f32, approximation: FrequencyApproximation) -> u8
+    ensures { λ r. ⌜ r ≡ frequencyRefusal f approximation ⌝ }
+{
+    match approximation {
+        FrequencyApproximation::Exact => if f < 0.0 { 11 } else { 0 },
+        FrequencyApproximation::Accurate => 0,
+        FrequencyApproximation::Fast => 0,
+        FrequencyApproximation::Dirty => 0,
+    }
 }
 
 // A buffer form works over the shortest of the lent lengths.

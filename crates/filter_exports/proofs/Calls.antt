@@ -1,65 +1,114 @@
--- A call is refused, or it is accepted: the two ways to each promise. Assumes nothing.
+-- A call is refused, or it is accepted: the two ways to each promise, over any filter. k is the number of a mode or an approximation.
+-- Assumes nothing.
 use Prim.Native.Nat.{ℕ, _≤_, _<_}
-use mathlib.Core.Path.{_≡_, ap, _∙_}
+use native.Mathlib.Omega.{arith}
+use mathlib.Core.Path.{_≡_, refl, ap, _∙_}
 use mathlib.Core.List.{List}
 use lib.Ieee.{Float}
 use borrow.Author.Tests.{le-leb, lt-leb}
 use Rattle.filter_core.specs.Buffer.{Filtered}
-use Rattle.filter_core.specs.Refusal.{Answered, unlessRefused}
-use Rattle.filter_core.proofs.Refusals.{refusing, accepting}
-use Rattle.filter_words.specs.Numbers.{unknownRefusal, firstRefusal}
-use Rattle.filter_exports.specs.Calls.{Sets, Answers, Runs}
+use Rattle.filter_core.specs.Refusal.{Answered, stepRefusal, frequencyRefusal}
+use Rattle.filter_core.specs.declared.FrequencyApproximation.{FrequencyApproximation}
+use Rattle.filter_core.proofs.Refusals.{refusing, accepting, zero-is, stays, goes}
+use Rattle.filter_fields.specs.Numbers.{approximationOf, unknownRefusal, firstRefusal}
+use Rattle.filter_exports.specs.Calls.{Gives, Sets, Answers, Runs, Filters}
 
--- ---- the number k of a mode or an approximation, alone and before another refusal b
+-- ---- the number k alone and before another refusal b
 
 module _ {k : ℕ} where
-  pub unknown : 3 < k → 100 ≡ unknownRefusal k
+  unknown : 3 < k → 100 ≡ unknownRefusal k
   unknown h = rw (lt-leb k 3 h)
 
   pub known : k ≤ 3 → 0 ≡ unknownRefusal k
   known h = rw (le-leb k 3 h)
 
-  pub unknown-first : (b : ℕ) → 3 < k → 100 ≡ firstRefusal (unknownRefusal k) b
+  unknown-first : (b : ℕ) → 3 < k → 100 ≡ firstRefusal (unknownRefusal k) b
   unknown-first b h = rw (lt-leb k 3 h)
 
   pub known-first : {b number : ℕ} → k ≤ 3 → number ≡ b → number ≡ firstRefusal (unknownRefusal k) b
   known-first h e = rw (le-leb k 3 h, e)
 
--- ---- what a refused call leaves, and an accepted one
+hundred : _≡_ {A = ℕ} 100 0 → ⊥
+hundred e = omega arith
 
-module _ {A : Type 0} {n number : ℕ} (was made : A) (e : number ≡ n) where
-  pub stays : (number ≡ 0 → ⊥) → was ≡ unlessRefused n was made
-  stays z = rw (refusing number n e z)
+-- ---- a call that has no state
 
-  pub goes : number ≡ 0 → made ≡ unlessRefused n was made
-  goes z = rw (accepting number n e z)
+gives-refused : {n number : ℕ} {old new : Float} → number ≡ n → (number ≡ 0 → ⊥) → Gives n old new number old
+gives-refused e z = record { refusal = e; output = stays _ _ e z }
 
-module _ {n number : ℕ} {was made : List Float} (e : number ≡ n) where
-  pub set-refused : (number ≡ 0 → ⊥) → Sets n was made number was
-  set-refused z = record { refusal = e; state = stays _ _ e z }
+pub gives-accepted : {n : ℕ} {old new is : Float} → 0 ≡ n → is ≡ new → Gives n old new 0 is
+gives-accepted e o = record { refusal = e; output = goes _ _ e refl o }
 
-  pub set-accepted : {words : List Float} → number ≡ 0 → words ≡ made → Sets n was made number words
-  set-accepted z w = record { refusal = e; state = w ∙ goes _ _ e z }
+module _ {k : ℕ} {old new : Float} where
+  pub gives-unknown : (b : ℕ) → 3 < k → Gives (firstRefusal (unknownRefusal k) b) old new 100 old
+  gives-unknown b h = gives-refused (unknown-first b h) hundred
 
-  pub answer-refused : {old new : Float} → (number ≡ 0 → ⊥) → Answers n was made old new number was old
-  answer-refused z = record { refusal = e; state = stays _ _ e z; output = stays _ _ e z }
+  pub gives-frequency-refused : (f : Float) {a : FrequencyApproximation} {number : ℕ} → k ≤ 3 → a ≡ approximationOf k → number ≡ frequencyRefusal f a → (number ≡ 0 → ⊥)
+      → Gives (firstRefusal (unknownRefusal k) (frequencyRefusal f (approximationOf k))) old new number old
+  gives-frequency-refused f h a e z = gives-refused (known-first h (rw a at e)) z
 
-  pub answer-accepted : {old new is : Float} {words : List Float} → number ≡ 0 → words ≡ made → is ≡ new → Answers n was made old new number words is
-  answer-accepted z w o = record { refusal = e; state = w ∙ goes _ _ e z; output = o ∙ goes _ _ e z }
+-- ---- a setter
 
-module _ {S : Type 0} {read : List Float → S} {write : S → List Float} {n number : ℕ} {next : ℕ → S → Float → S} {put : ℕ → S → Float → Float → Float} {was xs ys zs : List Float} (e : number ≡ n) where
-  pub run-refused : (number ≡ 0 → ⊥) → zs ≡ ys → Runs read write n next put was xs ys number was zs
-  run-refused z o = record { refusal = e; state = stays _ _ e z; buffer = o ∙ stays _ _ e z }
+set-refused : {n number : ℕ} {was made : List Float} → number ≡ n → (number ≡ 0 → ⊥) → Sets n was made number was
+set-refused e z = record { refusal = e; state = stays _ _ e z }
 
-  pub run-accepted : {f : S} {words : List Float} → number ≡ 0 → Filtered next put (read was) xs ys f zs → words ≡ write f
-      → Runs read write n next put was xs ys number words zs
-  run-accepted z d w = record { refusal = e; state = w ∙ ap write (d .state) ∙ goes _ _ e z; buffer = d .buffer ∙ goes _ _ e z }
+pub set-accepted : {n : ℕ} {was made fields : List Float} → 0 ≡ n → fields ≡ made → Sets n was made 0 fields
+set-accepted e w = record { refusal = e; state = goes _ _ e refl w }
 
--- ---- a form that goes by a step
+module _ {k : ℕ} {was made : List Float} where
+  pub set-unknown : (b : ℕ) → 3 < k → Sets (firstRefusal (unknownRefusal k) b) was made 100 was
+  set-unknown b h = set-refused (unknown-first b h) hundred
 
-module _ {S : Type 0} {d : ℕ} {next : ℕ → S → Float → S} {put : ℕ → S → Float → Float → Float} {s f : S} {xs ys zs : List Float} {number : ℕ} (a : Answered d next put s xs ys number f zs) where
-  pub step-refused : (number ≡ 0 → ⊥) → zs ≡ ys
-  step-refused z = rw (refusing number _ (a .refusal) z) at (a .filtered .buffer)
+  pub set-frequency-refused : (f : Float) {a : FrequencyApproximation} {number : ℕ} → k ≤ 3 → a ≡ approximationOf k → number ≡ frequencyRefusal f a → (number ≡ 0 → ⊥)
+      → Sets (firstRefusal (unknownRefusal k) (frequencyRefusal f (approximationOf k))) was made number was
+  set-frequency-refused f h a e z = set-refused (known-first h (rw a at e)) z
 
-  pub step-accepted : number ≡ 0 → Filtered next put s xs ys f zs
-  step-accepted z = rw (accepting number _ (a .refusal) z) at (a .filtered)
+-- ---- a call for one sample
+
+pub answer-accepted : {n : ℕ} {was made fields : List Float} {old new is : Float} → 0 ≡ n → fields ≡ made → is ≡ new → Answers n was made old new 0 fields is
+answer-accepted e w o = record { refusal = e; state = goes _ _ e refl w; output = goes _ _ e refl o }
+
+answer-refused : {n number : ℕ} {was made : List Float} {old new : Float} → number ≡ n → (number ≡ 0 → ⊥) → Answers n was made old new number was old
+answer-refused e z = record { refusal = e; state = stays _ _ e z; output = stays _ _ e z }
+
+module _ {k : ℕ} {was made : List Float} {old new : Float} where
+  pub answer-unknown : 3 < k → Answers (unknownRefusal k) was made old new 100 was old
+  answer-unknown h = answer-refused (unknown h) hundred
+
+  pub answer-first-unknown : (b : ℕ) → 3 < k → Answers (firstRefusal (unknownRefusal k) b) was made old new 100 was old
+  answer-first-unknown b h = answer-refused (unknown-first b h) hundred
+
+  pub answer-second-unknown : {j : ℕ} → j ≤ 3 → 3 < k → Answers (firstRefusal (unknownRefusal j) (unknownRefusal k)) was made old new 100 was old
+  answer-second-unknown g h = answer-refused (known-first g (unknown h)) hundred
+
+-- ---- a buffer form
+
+module _ {S : Type 0} {read : List Float → S} {write : S → List Float} {next : ℕ → S → Float → S} {put : ℕ → S → Float → Float → Float} {was xs ys : List Float} where
+  run-refused : {n number : ℕ} {zs : List Float} → number ≡ n → (number ≡ 0 → ⊥) → zs ≡ ys → Runs read write n next put was xs ys number was zs
+  run-refused e z o = record { refusal = e; state = stays _ _ e z; buffer = o ∙ stays _ _ e z }
+
+  pub run-accepted : {n : ℕ} {f : S} {zs fields : List Float} → 0 ≡ n → Filtered next put (read was) xs ys f zs → fields ≡ write f
+      → Runs read write n next put was xs ys 0 fields zs
+  run-accepted e d w = record { refusal = e; state = goes _ _ e refl (w ∙ ap write (d .state)); buffer = goes _ _ e refl (d .buffer) }
+
+  module _ {k : ℕ} where
+    pub run-unknown : 3 < k → Runs read write (unknownRefusal k) next put was xs ys 100 was ys
+    run-unknown h = run-refused (unknown h) hundred refl
+
+    pub run-first-unknown : (b : ℕ) → 3 < k → Runs read write (firstRefusal (unknownRefusal k) b) next put was xs ys 100 was ys
+    run-first-unknown b h = run-refused (unknown-first b h) hundred refl
+
+    -- a form that goes by the step d, whatever it would have done
+    pub run-step-refused : {d number : ℕ} {next′ : ℕ → S → Float → S} {put′ : ℕ → S → Float → Float → Float} {s f : S} {zs : List Float} → k ≤ 3
+        → Answered d next′ put′ s xs ys number f zs → (number ≡ 0 → ⊥) → Runs read write (firstRefusal (unknownRefusal k) (stepRefusal d)) next put was xs ys number was zs
+    run-step-refused {number = number} h a z =
+        run-refused (known-first h (a .refusal)) z (rw (refusing number _ (a .refusal) z) at (a .filtered .buffer))
+
+  -- a form that cannot be refused
+  pub filters : {s f : S} {zs fields : List Float} → s ≡ read was → Filtered next put s xs ys f zs → fields ≡ write f → Filters read write next put was xs ys fields zs
+  filters e d w = let d = rw e at d in record { state = w ∙ ap write (d .state); buffer = d .buffer }
+
+-- a form that goes by a step and was accepted
+pub stepped : {S : Type 0} {d number : ℕ} {next : ℕ → S → Float → S} {put : ℕ → S → Float → Float → Float} {s f : S} {xs ys zs : List Float}
+    → Answered d next put s xs ys number f zs → number ≡ 0 → (0 ≡ stepRefusal d) × Filtered next put s xs ys f zs
+stepped {number = number} a z = (zero-is (a .refusal) z, rw (accepting number _ (a .refusal) z) at (a .filtered))

@@ -7,7 +7,7 @@ use lib.Ieee.{Float}
 use Rattle.filter_core.specs.Buffer.{stateAfter, Filtered, each, due, eachDue}
 use Rattle.svf.specs.Svf.{svfNext}
 use Rattle.svf.specs.declared.Svf.{Svf}
-use Rattle.filter_words.specs.Words.{svfRetained, svfWords}
+use Rattle.filter_fields.specs.Fields.{svfRetained, svfFields}
 
 -- a step after which the settings are those before it
 pub record Keeps (next : ℕ → Svf → Float → Svf) : Type 0 where
@@ -31,5 +31,5 @@ module _ {next : ℕ → Svf → Float → Svf} (same : Keeps next) where
   settings k s (x ∷ xs) = sym (same .keeps k s (stateAfter next (suc k) (next k s x) xs) x) ∙ settings (suc k) (next k s x) xs
 
   pub retained : {put : ℕ → Svf → Float → Float → Float} {s f : Svf} {xs ys zs : List Float} → Filtered next put s xs ys f zs
-      → svfWords (svfRetained s f) ≡ svfWords f
-  retained {put} {s} {f} {xs} d = ap svfWords (ap (svfRetained s) (d .state) ∙ settings 0 s xs ∙ sym (d .state))
+      → svfFields (svfRetained s f) ≡ svfFields f
+  retained {put} {s} {f} {xs} d = ap svfFields (ap (svfRetained s) (d .state) ∙ settings 0 s xs ∙ sym (d .state))

@@ -6,36 +6,36 @@ use crossover_svf::CrossoverSvf;
 ghost use mathlib.Core.Path.{_≡_};
 ghost use Rattle.filter_core.specs.Buffer.{within, each, puts};
 ghost use Rattle.crossover_svf.specs.CrossoverSvf.{crossoverNew, crossoverInit, crossoverReset, crossoverSetFFq, crossoverNext, crossoverOut};
-ghost use Rattle.filter_words.specs.Numbers.{modeOf, unknownRefusal};
-ghost use Rattle.filter_words.specs.Words.{crossoverOf, crossoverWords};
+ghost use Rattle.filter_fields.specs.Numbers.{modeOf, unknownRefusal};
+ghost use Rattle.filter_fields.specs.Fields.{crossoverFrom, crossoverFields};
 ghost use Rattle.filter_exports.specs.Calls.{Runs};
 
 #[no_mangle]
 pub extern "C" fn crossover_svf_new(state: &mut [f32; 8])
-    ensures { λ _. ⌜ now (state .exit) ≡ crossoverWords crossoverNew ⌝ }
+    ensures { λ _. ⌜ now (state .exit) ≡ crossoverFields crossoverNew ⌝ }
 {
-    *state = filter_words::crossover_svf_words(CrossoverSvf::new());
+    *state = filter_fields::crossover_svf_fields(CrossoverSvf::new());
 }
 
 #[no_mangle]
 pub extern "C" fn crossover_svf_init(state: &mut [f32; 8])
-    ensures { λ _. ⌜ now (state .exit) ≡ crossoverWords (crossoverInit (crossoverOf (now (state .entry)))) ⌝ }
+    ensures { λ _. ⌜ now (state .exit) ≡ crossoverFields (crossoverInit (crossoverFrom (now (state .entry)))) ⌝ }
 {
-    *state = filter_words::crossover_svf_words(filter_words::crossover_svf_of(state).init());
+    *state = filter_fields::crossover_svf_fields(filter_fields::crossover_svf_from(state).init());
 }
 
 #[no_mangle]
 pub extern "C" fn crossover_svf_reset(state: &mut [f32; 8])
-    ensures { λ _. ⌜ now (state .exit) ≡ crossoverWords (crossoverReset (crossoverOf (now (state .entry)))) ⌝ }
+    ensures { λ _. ⌜ now (state .exit) ≡ crossoverFields (crossoverReset (crossoverFrom (now (state .entry)))) ⌝ }
 {
-    *state = filter_words::crossover_svf_words(filter_words::crossover_svf_of(state).reset());
+    *state = filter_fields::crossover_svf_fields(filter_fields::crossover_svf_from(state).reset());
 }
 
 #[no_mangle]
 pub extern "C" fn crossover_svf_set_f_fq(state: &mut [f32; 8], f: f32, fq: f32)
-    ensures { λ _. ⌜ now (state .exit) ≡ crossoverWords (crossoverSetFFq (crossoverOf (now (state .entry))) f fq) ⌝ }
+    ensures { λ _. ⌜ now (state .exit) ≡ crossoverFields (crossoverSetFFq (crossoverFrom (now (state .entry))) f fq) ⌝ }
 {
-    *state = filter_words::crossover_svf_words(filter_words::crossover_svf_of(state).set_f_fq(
+    *state = filter_fields::crossover_svf_fields(filter_fields::crossover_svf_from(state).set_f_fq(
         f,
         fq,
     ));
@@ -49,13 +49,17 @@ pub extern "C" fn crossover_svf_process(
     out: &mut [f32],
     mode: u8,
 ) -> u8
-    ensures { λ r. ⌜ Runs crossoverOf crossoverWords (unknownRefusal mode) (each (crossoverNext (modeOf mode))) (puts (crossoverOut (modeOf mode)))
+    ensures { λ r. ⌜ Runs crossoverFrom crossoverFields (unknownRefusal mode) (each (crossoverNext (modeOf mode))) (puts (crossoverOut (modeOf mode)))
         (now (state .entry)) (within (now («in_» .entry)) (now (out .entry))) (now (out .entry)) r (now (state .exit)) (now (out .exit)) ⌝ }
 {
     if LAST < mode {
         return UNKNOWN;
     }
-    let s = filter_words::crossover_svf_of(state).process(in_, out, filter_words::mode_of(mode));
-    *state = filter_words::crossover_svf_words(s);
+    let s = filter_fields::crossover_svf_from(state).process(
+        in_,
+        out,
+        filter_fields::mode_of(mode),
+    );
+    *state = filter_fields::crossover_svf_fields(s);
     0
 }

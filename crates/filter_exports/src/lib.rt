@@ -1,6 +1,6 @@
-// The filters for Rust and C to call: a function for each method of the six types. filter_words says how a filter is an array of words
-// and what the numbers of a mode and an approximation name. A function that can be refused answers 0 or the refusal's number, and a
-// refused one changes nothing.
+// The filters for Rust and C to call: a function for each method of the six types. filter_fields says how a filter is an array of
+// floats and what the numbers of a mode and an approximation name. A function that can be refused answers 0 or the refusal's number,
+// and a refused one changes nothing.
 
 pub mod crossover_svf_calls;
 pub mod dc_blocker_calls;
@@ -11,7 +11,7 @@ pub mod svf_calls;
 
 // The refusal of a number that names no mode, or no approximation. The refusal table of document 01 does not have it: there a mode is
 // one of four.
-pub const UNKNOWN: u8 = 100;
+pub(crate) const UNKNOWN: u8 = 100;
 
 // The largest number that names a mode, or an approximation.
-pub const LAST: u8 = 3;
+pub(crate) const LAST: u8 = 3;

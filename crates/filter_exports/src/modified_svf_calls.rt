@@ -6,36 +6,39 @@ use modified_svf::ModifiedSvf;
 ghost use mathlib.Core.Path.{_≡_};
 ghost use Rattle.filter_core.specs.Buffer.{within, each, puts};
 ghost use Rattle.modified_svf.specs.ModifiedSvf.{modifiedNew, modifiedInit, modifiedReset, modifiedSetFFq, modifiedNext, modifiedOut};
-ghost use Rattle.filter_words.specs.Numbers.{modeOf, unknownRefusal};
-ghost use Rattle.filter_words.specs.Words.{modifiedOf, modifiedWords};
+ghost use Rattle.filter_fields.specs.Numbers.{modeOf, unknownRefusal};
+ghost use Rattle.filter_fields.specs.Fields.{modifiedFrom, modifiedFields};
 ghost use Rattle.filter_exports.specs.Calls.{Runs};
 
 #[no_mangle]
 pub extern "C" fn modified_svf_new(state: &mut [f32; 5])
-    ensures { λ _. ⌜ now (state .exit) ≡ modifiedWords modifiedNew ⌝ }
+    ensures { λ _. ⌜ now (state .exit) ≡ modifiedFields modifiedNew ⌝ }
 {
-    *state = filter_words::modified_svf_words(ModifiedSvf::new());
+    *state = filter_fields::modified_svf_fields(ModifiedSvf::new());
 }
 
 #[no_mangle]
 pub extern "C" fn modified_svf_init(state: &mut [f32; 5])
-    ensures { λ _. ⌜ now (state .exit) ≡ modifiedWords (modifiedInit (modifiedOf (now (state .entry)))) ⌝ }
+    ensures { λ _. ⌜ now (state .exit) ≡ modifiedFields (modifiedInit (modifiedFrom (now (state .entry)))) ⌝ }
 {
-    *state = filter_words::modified_svf_words(filter_words::modified_svf_of(state).init());
+    *state = filter_fields::modified_svf_fields(filter_fields::modified_svf_from(state).init());
 }
 
 #[no_mangle]
 pub extern "C" fn modified_svf_reset(state: &mut [f32; 5])
-    ensures { λ _. ⌜ now (state .exit) ≡ modifiedWords (modifiedReset (modifiedOf (now (state .entry)))) ⌝ }
+    ensures { λ _. ⌜ now (state .exit) ≡ modifiedFields (modifiedReset (modifiedFrom (now (state .entry)))) ⌝ }
 {
-    *state = filter_words::modified_svf_words(filter_words::modified_svf_of(state).reset());
+    *state = filter_fields::modified_svf_fields(filter_fields::modified_svf_from(state).reset());
 }
 
 #[no_mangle]
 pub extern "C" fn modified_svf_set_f_fq(state: &mut [f32; 5], f: f32, fq: f32)
-    ensures { λ _. ⌜ now (state .exit) ≡ modifiedWords (modifiedSetFFq (modifiedOf (now (state .entry))) f fq) ⌝ }
+    ensures { λ _. ⌜ now (state .exit) ≡ modifiedFields (modifiedSetFFq (modifiedFrom (now (state .entry))) f fq) ⌝ }
 {
-    *state = filter_words::modified_svf_words(filter_words::modified_svf_of(state).set_f_fq(f, fq));
+    *state = filter_fields::modified_svf_fields(filter_fields::modified_svf_from(state).set_f_fq(
+        f,
+        fq,
+    ));
 }
 
 // Refused with UNKNOWN.
@@ -46,13 +49,13 @@ pub extern "C" fn modified_svf_process(
     out: &mut [f32],
     mode: u8,
 ) -> u8
-    ensures { λ r. ⌜ Runs modifiedOf modifiedWords (unknownRefusal mode) (each (modifiedNext (modeOf mode))) (puts (modifiedOut (modeOf mode)))
+    ensures { λ r. ⌜ Runs modifiedFrom modifiedFields (unknownRefusal mode) (each (modifiedNext (modeOf mode))) (puts (modifiedOut (modeOf mode)))
         (now (state .entry)) (within (now («in_» .entry)) (now (out .entry))) (now (out .entry)) r (now (state .exit)) (now (out .exit)) ⌝ }
 {
     if LAST < mode {
         return UNKNOWN;
     }
-    let s = filter_words::modified_svf_of(state).process(in_, out, filter_words::mode_of(mode));
-    *state = filter_words::modified_svf_words(s);
+    let s = filter_fields::modified_svf_from(state).process(in_, out, filter_fields::mode_of(mode));
+    *state = filter_fields::modified_svf_fields(s);
     0
 }

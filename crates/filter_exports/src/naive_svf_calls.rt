@@ -4,32 +4,32 @@ use crate::LAST;
 use crate::UNKNOWN;
 use naive_svf::NaiveSvf;
 ghost use mathlib.Core.Path.{_≡_};
-ghost use Rattle.filter_core.specs.Buffer.{within, each, puts, putsDue, stateAfter, bufferAfter};
+ghost use Rattle.filter_core.specs.Buffer.{within, each, puts, putsDue};
 ghost use Rattle.filter_core.specs.Refusal.{frequencyRefusal, stepRefusal};
 ghost use Rattle.naive_svf.specs.NaiveSvf.{naiveNew, naiveInit, naiveReset, naiveSetFQ, naiveNext, naiveOut, naiveLow, naiveHigh};
-ghost use Rattle.filter_words.specs.Numbers.{modeOf, approximationOf, unknownRefusal, firstRefusal};
-ghost use Rattle.filter_words.specs.Words.{naiveOf, naiveWords};
-ghost use Rattle.filter_exports.specs.Calls.{Sets, Answers, Runs};
+ghost use Rattle.filter_fields.specs.Numbers.{modeOf, approximationOf, unknownRefusal, firstRefusal};
+ghost use Rattle.filter_fields.specs.Fields.{naiveFrom, naiveFields};
+ghost use Rattle.filter_exports.specs.Calls.{Sets, Answers, Runs, Filters};
 
 #[no_mangle]
 pub extern "C" fn naive_svf_new(state: &mut [f32; 4])
-    ensures { λ _. ⌜ now (state .exit) ≡ naiveWords naiveNew ⌝ }
+    ensures { λ _. ⌜ now (state .exit) ≡ naiveFields naiveNew ⌝ }
 {
-    *state = filter_words::naive_svf_words(NaiveSvf::new());
+    *state = filter_fields::naive_svf_fields(NaiveSvf::new());
 }
 
 #[no_mangle]
 pub extern "C" fn naive_svf_init(state: &mut [f32; 4])
-    ensures { λ _. ⌜ now (state .exit) ≡ naiveWords (naiveInit (naiveOf (now (state .entry)))) ⌝ }
+    ensures { λ _. ⌜ now (state .exit) ≡ naiveFields (naiveInit (naiveFrom (now (state .entry)))) ⌝ }
 {
-    *state = filter_words::naive_svf_words(filter_words::naive_svf_of(state).init());
+    *state = filter_fields::naive_svf_fields(filter_fields::naive_svf_from(state).init());
 }
 
 #[no_mangle]
 pub extern "C" fn naive_svf_reset(state: &mut [f32; 4])
-    ensures { λ _. ⌜ now (state .exit) ≡ naiveWords (naiveReset (naiveOf (now (state .entry)))) ⌝ }
+    ensures { λ _. ⌜ now (state .exit) ≡ naiveFields (naiveReset (naiveFrom (now (state .entry)))) ⌝ }
 {
-    *state = filter_words::naive_svf_words(filter_words::naive_svf_of(state).reset());
+    *state = filter_fields::naive_svf_fields(filter_fields::naive_svf_from(state).reset());
 }
 
 // Refused with UNKNOWN, then with 11 where Exact gets an f below 0.
@@ -41,49 +41,49 @@ pub extern "C" fn naive_svf_set_f_q(
     approximation: u8,
 ) -> u8
     ensures { λ r. ⌜ Sets (firstRefusal (unknownRefusal approximation) (frequencyRefusal f (approximationOf approximation)))
-        (now (state .entry)) (naiveWords (naiveSetFQ (naiveOf (now (state .entry))) f resonance (approximationOf approximation))) r (now (state .exit)) ⌝ }
+        (now (state .entry)) (naiveFields (naiveSetFQ (naiveFrom (now (state .entry))) f resonance (approximationOf approximation))) r (now (state .exit)) ⌝ }
 {
     if LAST < approximation {
         return UNKNOWN;
     }
-    let t = filter_words::naive_svf_of(state).set_f_q(
+    let t = filter_fields::naive_svf_from(state).set_f_q(
         f,
         resonance,
-        filter_words::approximation_of(approximation),
+        filter_fields::approximation_of(approximation),
     );
     if t.number != 0 {
         return t.number;
     }
-    *state = filter_words::naive_svf_words(t.filter);
+    *state = filter_fields::naive_svf_fields(t.filter);
     0
 }
 
 #[no_mangle]
 pub extern "C" fn naive_svf_lp(state: &[f32; 4]) -> f32
-    ensures { λ x. ⌜ x ≡ naiveOf (now (state .entry)) .lp ⌝ }
+    ensures { λ x. ⌜ x ≡ naiveFrom (now (state .entry)) .lp ⌝ }
 {
-    filter_words::naive_svf_of(state).lp()
+    filter_fields::naive_svf_from(state).lp()
 }
 
 #[no_mangle]
 pub extern "C" fn naive_svf_bp(state: &[f32; 4]) -> f32
-    ensures { λ x. ⌜ x ≡ naiveOf (now (state .entry)) .bp ⌝ }
+    ensures { λ x. ⌜ x ≡ naiveFrom (now (state .entry)) .bp ⌝ }
 {
-    filter_words::naive_svf_of(state).bp()
+    filter_fields::naive_svf_from(state).bp()
 }
 
 // Refused with UNKNOWN, as each call below that takes a mode.
 #[no_mangle]
 pub extern "C" fn naive_svf_process(state: &mut [f32; 4], in_: f32, mode: u8, out: &mut f32) -> u8
-    ensures { λ r. ⌜ Answers (unknownRefusal mode) (now (state .entry)) (naiveWords (naiveNext (naiveOf (now (state .entry))) «in_»))
-        (now (out .entry)) (naiveOut (modeOf mode) (naiveOf (now (state .entry))) «in_») r (now (state .exit)) (now (out .exit)) ⌝ }
+    ensures { λ r. ⌜ Answers (unknownRefusal mode) (now (state .entry)) (naiveFields (naiveNext (naiveFrom (now (state .entry))) «in_»))
+        (now (out .entry)) (naiveOut (modeOf mode) (naiveFrom (now (state .entry))) «in_») r (now (state .exit)) (now (out .exit)) ⌝ }
 {
     if LAST < mode {
         return UNKNOWN;
     }
-    let t = filter_words::naive_svf_of(state).process(in_, filter_words::mode_of(mode));
+    let t = filter_fields::naive_svf_from(state).process(in_, filter_fields::mode_of(mode));
     *out = t.out;
-    *state = filter_words::naive_svf_words(t.filter);
+    *state = filter_fields::naive_svf_fields(t.filter);
     0
 }
 
@@ -94,14 +94,18 @@ pub extern "C" fn naive_svf_process_buffer(
     out: &mut [f32],
     mode: u8,
 ) -> u8
-    ensures { λ r. ⌜ Runs naiveOf naiveWords (unknownRefusal mode) (each naiveNext) (puts (naiveOut (modeOf mode)))
+    ensures { λ r. ⌜ Runs naiveFrom naiveFields (unknownRefusal mode) (each naiveNext) (puts (naiveOut (modeOf mode)))
         (now (state .entry)) (within (now («in_» .entry)) (now (out .entry))) (now (out .entry)) r (now (state .exit)) (now (out .exit)) ⌝ }
 {
     if LAST < mode {
         return UNKNOWN;
     }
-    let s = filter_words::naive_svf_of(state).process_buffer(in_, out, filter_words::mode_of(mode));
-    *state = filter_words::naive_svf_words(s);
+    let s = filter_fields::naive_svf_from(state).process_buffer(
+        in_,
+        out,
+        filter_fields::mode_of(mode),
+    );
+    *state = filter_fields::naive_svf_fields(s);
     0
 }
 
@@ -112,11 +116,16 @@ pub extern "C" fn naive_svf_split(
     low: &mut [f32],
     high: &mut [f32],
 )
-    ensures lows { λ _. ⌜ (now (state .exit) ≡ naiveWords (stateAfter (each naiveNext) 0 (naiveOf (now (state .entry))) (within (within (now («in_» .entry)) (now (low .entry))) (now (high .entry)))))
-        × (now (low .exit) ≡ bufferAfter (each naiveNext) (puts naiveLow) 0 (naiveOf (now (state .entry))) (within (within (now («in_» .entry)) (now (low .entry))) (now (high .entry))) (now (low .entry))) ⌝ }
-    ensures highs { λ _. ⌜ now (high .exit) ≡ bufferAfter (each naiveNext) (puts naiveHigh) 0 (naiveOf (now (state .entry))) (within (within (now («in_» .entry)) (now (low .entry))) (now (high .entry))) (now (high .entry)) ⌝ }
+    ensures lows { λ _. ⌜ Filters naiveFrom naiveFields (each naiveNext) (puts naiveLow) (now (state .entry))
+        (within (within (now («in_» .entry)) (now (low .entry))) (now (high .entry))) (now (low .entry)) (now (state .exit)) (now (low .exit)) ⌝ }
+    ensures highs { λ _. ⌜ Filters naiveFrom naiveFields (each naiveNext) (puts naiveHigh) (now (state .entry))
+        (within (within (now («in_» .entry)) (now (low .entry))) (now (high .entry))) (now (high .entry)) (now (state .exit)) (now (high .exit)) ⌝ }
 {
-    *state = filter_words::naive_svf_words(filter_words::naive_svf_of(state).split(in_, low, high));
+    *state = filter_fields::naive_svf_fields(filter_fields::naive_svf_from(state).split(
+        in_,
+        low,
+        high,
+    ));
 }
 
 // Refused with UNKNOWN, then with 10 where decimate is 0.
@@ -128,21 +137,21 @@ pub extern "C" fn naive_svf_process_decimate(
     decimate: usize,
     mode: u8,
 ) -> u8
-    ensures { λ r. ⌜ Runs naiveOf naiveWords (firstRefusal (unknownRefusal mode) (stepRefusal decimate)) (each naiveNext) (putsDue decimate (naiveOut (modeOf mode)))
+    ensures { λ r. ⌜ Runs naiveFrom naiveFields (firstRefusal (unknownRefusal mode) (stepRefusal decimate)) (each naiveNext) (putsDue decimate (naiveOut (modeOf mode)))
         (now (state .entry)) (within (now («in_» .entry)) (now (out .entry))) (now (out .entry)) r (now (state .exit)) (now (out .exit)) ⌝ }
 {
     if LAST < mode {
         return UNKNOWN;
     }
-    let t = filter_words::naive_svf_of(state).process_decimate(
+    let t = filter_fields::naive_svf_from(state).process_decimate(
         in_,
         out,
         decimate,
-        filter_words::mode_of(mode),
+        filter_fields::mode_of(mode),
     );
     if t.number != 0 {
         return t.number;
     }
-    *state = filter_words::naive_svf_words(t.filter);
+    *state = filter_fields::naive_svf_fields(t.filter);
     0
 }

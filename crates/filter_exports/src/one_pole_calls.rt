@@ -4,45 +4,44 @@ use crate::LAST;
 use crate::UNKNOWN;
 use one_pole::OnePole;
 ghost use mathlib.Core.Path.{_≡_};
-ghost use Rattle.filter_core.specs.Refusal.{frequencyRefusal, unlessRefused};
-ghost use Rattle.one_pole.specs.Tangent.{tanOf};
+ghost use Rattle.filter_core.specs.Refusal.{frequencyRefusal};
+ghost use Rattle.tangent.specs.Tangent.{tanOf};
 ghost use Rattle.one_pole.specs.OnePole.{onePoleNew, onePoleInit, onePoleReset, onePoleSetF, onePoleNext, onePoleOut};
-ghost use Rattle.filter_words.specs.Numbers.{modeOf, approximationOf, unknownRefusal, firstRefusal};
-ghost use Rattle.filter_words.specs.Words.{onePoleOf, onePoleWords};
-ghost use Rattle.filter_exports.specs.Calls.{Sets, Answers};
+ghost use Rattle.filter_fields.specs.Numbers.{modeOf, approximationOf, unknownRefusal, firstRefusal};
+ghost use Rattle.filter_fields.specs.Fields.{onePoleFrom, onePoleFields};
+ghost use Rattle.filter_exports.specs.Calls.{Gives, Sets, Answers};
 
 #[no_mangle]
 pub extern "C" fn one_pole_new(state: &mut [f32; 3])
-    ensures { λ _. ⌜ now (state .exit) ≡ onePoleWords onePoleNew ⌝ }
+    ensures { λ _. ⌜ now (state .exit) ≡ onePoleFields onePoleNew ⌝ }
 {
-    *state = filter_words::one_pole_words(OnePole::new());
+    *state = filter_fields::one_pole_fields(OnePole::new());
 }
 
 #[no_mangle]
 pub extern "C" fn one_pole_init(state: &mut [f32; 3])
-    ensures { λ _. ⌜ now (state .exit) ≡ onePoleWords (onePoleInit (onePoleOf (now (state .entry)))) ⌝ }
+    ensures { λ _. ⌜ now (state .exit) ≡ onePoleFields (onePoleInit (onePoleFrom (now (state .entry)))) ⌝ }
 {
-    *state = filter_words::one_pole_words(filter_words::one_pole_of(state).init());
+    *state = filter_fields::one_pole_fields(filter_fields::one_pole_from(state).init());
 }
 
 #[no_mangle]
 pub extern "C" fn one_pole_reset(state: &mut [f32; 3])
-    ensures { λ _. ⌜ now (state .exit) ≡ onePoleWords (onePoleReset (onePoleOf (now (state .entry)))) ⌝ }
+    ensures { λ _. ⌜ now (state .exit) ≡ onePoleFields (onePoleReset (onePoleFrom (now (state .entry)))) ⌝ }
 {
-    *state = filter_words::one_pole_words(filter_words::one_pole_of(state).reset());
+    *state = filter_fields::one_pole_fields(filter_fields::one_pole_from(state).reset());
 }
 
 // Refused with UNKNOWN, then with 11 where Exact gets an f below 0.
 #[no_mangle]
 pub extern "C" fn one_pole_tan(f: f32, approximation: u8, value: &mut f32) -> u8
-    ensures { λ r. ⌜ (r ≡ firstRefusal (unknownRefusal approximation) (frequencyRefusal f (approximationOf approximation)))
-        × (now (value .exit) ≡ unlessRefused (firstRefusal (unknownRefusal approximation) (frequencyRefusal f (approximationOf approximation)))
-        (now (value .entry)) (tanOf f (approximationOf approximation))) ⌝ }
+    ensures { λ r. ⌜ Gives (firstRefusal (unknownRefusal approximation) (frequencyRefusal f (approximationOf approximation)))
+        (now (value .entry)) (tanOf f (approximationOf approximation)) r (now (value .exit)) ⌝ }
 {
     if LAST < approximation {
         return UNKNOWN;
     }
-    let t = OnePole::tan(f, filter_words::approximation_of(approximation));
+    let t = OnePole::tan(f, filter_fields::approximation_of(approximation));
     if t.number != 0 {
         return t.number;
     }
@@ -54,33 +53,33 @@ pub extern "C" fn one_pole_tan(f: f32, approximation: u8, value: &mut f32) -> u8
 #[no_mangle]
 pub extern "C" fn one_pole_set_f(state: &mut [f32; 3], f: f32, approximation: u8) -> u8
     ensures { λ r. ⌜ Sets (firstRefusal (unknownRefusal approximation) (frequencyRefusal f (approximationOf approximation)))
-        (now (state .entry)) (onePoleWords (onePoleSetF (onePoleOf (now (state .entry))) f (approximationOf approximation))) r (now (state .exit)) ⌝ }
+        (now (state .entry)) (onePoleFields (onePoleSetF (onePoleFrom (now (state .entry))) f (approximationOf approximation))) r (now (state .exit)) ⌝ }
 {
     if LAST < approximation {
         return UNKNOWN;
     }
-    let t = filter_words::one_pole_of(state).set_f(
+    let t = filter_fields::one_pole_from(state).set_f(
         f,
-        filter_words::approximation_of(approximation),
+        filter_fields::approximation_of(approximation),
     );
     if t.number != 0 {
         return t.number;
     }
-    *state = filter_words::one_pole_words(t.filter);
+    *state = filter_fields::one_pole_fields(t.filter);
     0
 }
 
 // Refused with UNKNOWN.
 #[no_mangle]
 pub extern "C" fn one_pole_process(state: &mut [f32; 3], in_: f32, mode: u8, out: &mut f32) -> u8
-    ensures { λ r. ⌜ Answers (unknownRefusal mode) (now (state .entry)) (onePoleWords (onePoleNext (onePoleOf (now (state .entry))) «in_»))
-        (now (out .entry)) (onePoleOut (modeOf mode) (onePoleOf (now (state .entry))) «in_») r (now (state .exit)) (now (out .exit)) ⌝ }
+    ensures { λ r. ⌜ Answers (unknownRefusal mode) (now (state .entry)) (onePoleFields (onePoleNext (onePoleFrom (now (state .entry))) «in_»))
+        (now (out .entry)) (onePoleOut (modeOf mode) (onePoleFrom (now (state .entry))) «in_») r (now (state .exit)) (now (out .exit)) ⌝ }
 {
     if LAST < mode {
         return UNKNOWN;
     }
-    let t = filter_words::one_pole_of(state).process(in_, filter_words::mode_of(mode));
+    let t = filter_fields::one_pole_from(state).process(in_, filter_fields::mode_of(mode));
     *out = t.out;
-    *state = filter_words::one_pole_words(t.filter);
+    *state = filter_fields::one_pole_fields(t.filter);
     0
 }

@@ -4,117 +4,119 @@ use crate::LAST;
 use crate::UNKNOWN;
 use svf::Svf;
 ghost use mathlib.Core.Path.{_≡_};
-ghost use Rattle.filter_core.specs.Buffer.{within, each, puts, eachDue, putsDue, stateAfter, bufferAfter};
+ghost use Rattle.filter_core.specs.Buffer.{within, each, puts, eachDue, putsDue};
 ghost use Rattle.filter_core.specs.Refusal.{frequencyRefusal, stepRefusal};
 ghost use Rattle.svf.specs.Svf.{svfNew, svfInit, svfReset, svfSet, svfSetGRH, svfSetGR, svfSetGQ, svfSetFQ};
 ghost use Rattle.svf.specs.Svf.{svfNext, svfOut, svfGained, svfMultimode};
-ghost use Rattle.filter_words.specs.Numbers.{modeOf, approximationOf, unknownRefusal, firstRefusal};
-ghost use Rattle.filter_words.specs.Words.{svfOf, svfWords};
-ghost use Rattle.filter_exports.specs.Calls.{Sets, Answers, Runs};
+ghost use Rattle.filter_fields.specs.Numbers.{modeOf, approximationOf, unknownRefusal, firstRefusal};
+ghost use Rattle.filter_fields.specs.Fields.{svfFrom, svfFields};
+ghost use Rattle.filter_exports.specs.Calls.{Sets, Answers, Runs, Filters};
 
 #[no_mangle]
 pub extern "C" fn svf_new(state: &mut [f32; 5])
-    ensures { λ _. ⌜ now (state .exit) ≡ svfWords svfNew ⌝ }
+    ensures { λ _. ⌜ now (state .exit) ≡ svfFields svfNew ⌝ }
 {
-    *state = filter_words::svf_words(Svf::new());
+    *state = filter_fields::svf_fields(Svf::new());
 }
 
 #[no_mangle]
 pub extern "C" fn svf_init(state: &mut [f32; 5])
-    ensures { λ _. ⌜ now (state .exit) ≡ svfWords (svfInit (svfOf (now (state .entry)))) ⌝ }
+    ensures { λ _. ⌜ now (state .exit) ≡ svfFields (svfInit (svfFrom (now (state .entry)))) ⌝ }
 {
-    *state = filter_words::svf_words(filter_words::svf_of(state).init());
+    *state = filter_fields::svf_fields(filter_fields::svf_from(state).init());
 }
 
 #[no_mangle]
 pub extern "C" fn svf_reset(state: &mut [f32; 5])
-    ensures { λ _. ⌜ now (state .exit) ≡ svfWords (svfReset (svfOf (now (state .entry)))) ⌝ }
+    ensures { λ _. ⌜ now (state .exit) ≡ svfFields (svfReset (svfFrom (now (state .entry)))) ⌝ }
 {
-    *state = filter_words::svf_words(filter_words::svf_of(state).reset());
+    *state = filter_fields::svf_fields(filter_fields::svf_from(state).reset());
 }
 
 #[no_mangle]
 pub extern "C" fn svf_set(state: &mut [f32; 5], other: &[f32; 5])
-    ensures { λ _. ⌜ now (state .exit) ≡ svfWords (svfSet (svfOf (now (state .entry))) (svfOf (now (other .entry)))) ⌝ }
+    ensures { λ _. ⌜ now (state .exit) ≡ svfFields (svfSet (svfFrom (now (state .entry))) (svfFrom (now (other .entry)))) ⌝ }
 {
-    *state = filter_words::svf_words(filter_words::svf_of(state).set(filter_words::svf_of(other)));
+    *state = filter_fields::svf_fields(filter_fields::svf_from(state).set(filter_fields::svf_from(
+        other,
+    )));
 }
 
 #[no_mangle]
 pub extern "C" fn svf_set_g_r_h(state: &mut [f32; 5], g: f32, r: f32, h: f32)
-    ensures { λ _. ⌜ now (state .exit) ≡ svfWords (svfSetGRH (svfOf (now (state .entry))) g r h) ⌝ }
+    ensures { λ _. ⌜ now (state .exit) ≡ svfFields (svfSetGRH (svfFrom (now (state .entry))) g r h) ⌝ }
 {
-    *state = filter_words::svf_words(filter_words::svf_of(state).set_g_r_h(g, r, h));
+    *state = filter_fields::svf_fields(filter_fields::svf_from(state).set_g_r_h(g, r, h));
 }
 
 #[no_mangle]
 pub extern "C" fn svf_set_g_r(state: &mut [f32; 5], g: f32, r: f32)
-    ensures { λ _. ⌜ now (state .exit) ≡ svfWords (svfSetGR (svfOf (now (state .entry))) g r) ⌝ }
+    ensures { λ _. ⌜ now (state .exit) ≡ svfFields (svfSetGR (svfFrom (now (state .entry))) g r) ⌝ }
 {
-    *state = filter_words::svf_words(filter_words::svf_of(state).set_g_r(g, r));
+    *state = filter_fields::svf_fields(filter_fields::svf_from(state).set_g_r(g, r));
 }
 
 #[no_mangle]
 pub extern "C" fn svf_set_g_q(state: &mut [f32; 5], g: f32, resonance: f32)
-    ensures { λ _. ⌜ now (state .exit) ≡ svfWords (svfSetGQ (svfOf (now (state .entry))) g resonance) ⌝ }
+    ensures { λ _. ⌜ now (state .exit) ≡ svfFields (svfSetGQ (svfFrom (now (state .entry))) g resonance) ⌝ }
 {
-    *state = filter_words::svf_words(filter_words::svf_of(state).set_g_q(g, resonance));
+    *state = filter_fields::svf_fields(filter_fields::svf_from(state).set_g_q(g, resonance));
 }
 
 // Refused with UNKNOWN, then with 11 where Exact gets an f below 0.
 #[no_mangle]
 pub extern "C" fn svf_set_f_q(state: &mut [f32; 5], f: f32, resonance: f32, approximation: u8) -> u8
     ensures { λ r. ⌜ Sets (firstRefusal (unknownRefusal approximation) (frequencyRefusal f (approximationOf approximation)))
-        (now (state .entry)) (svfWords (svfSetFQ (svfOf (now (state .entry))) f resonance (approximationOf approximation))) r (now (state .exit)) ⌝ }
+        (now (state .entry)) (svfFields (svfSetFQ (svfFrom (now (state .entry))) f resonance (approximationOf approximation))) r (now (state .exit)) ⌝ }
 {
     if LAST < approximation {
         return UNKNOWN;
     }
-    let t = filter_words::svf_of(state).set_f_q(
+    let t = filter_fields::svf_from(state).set_f_q(
         f,
         resonance,
-        filter_words::approximation_of(approximation),
+        filter_fields::approximation_of(approximation),
     );
     if t.number != 0 {
         return t.number;
     }
-    *state = filter_words::svf_words(t.filter);
+    *state = filter_fields::svf_fields(t.filter);
     0
 }
 
 #[no_mangle]
 pub extern "C" fn svf_g(state: &[f32; 5]) -> f32
-    ensures { λ x. ⌜ x ≡ svfOf (now (state .entry)) .g ⌝ }
+    ensures { λ x. ⌜ x ≡ svfFrom (now (state .entry)) .g ⌝ }
 {
-    filter_words::svf_of(state).g()
+    filter_fields::svf_from(state).g()
 }
 
 #[no_mangle]
 pub extern "C" fn svf_r(state: &[f32; 5]) -> f32
-    ensures { λ x. ⌜ x ≡ svfOf (now (state .entry)) .r ⌝ }
+    ensures { λ x. ⌜ x ≡ svfFrom (now (state .entry)) .r ⌝ }
 {
-    filter_words::svf_of(state).r()
+    filter_fields::svf_from(state).r()
 }
 
 #[no_mangle]
 pub extern "C" fn svf_h(state: &[f32; 5]) -> f32
-    ensures { λ x. ⌜ x ≡ svfOf (now (state .entry)) .h ⌝ }
+    ensures { λ x. ⌜ x ≡ svfFrom (now (state .entry)) .h ⌝ }
 {
-    filter_words::svf_of(state).h()
+    filter_fields::svf_from(state).h()
 }
 
 // Refused with UNKNOWN, as each call below that takes a mode.
 #[no_mangle]
 pub extern "C" fn svf_process(state: &mut [f32; 5], in_: f32, mode: u8, out: &mut f32) -> u8
-    ensures { λ r. ⌜ Answers (unknownRefusal mode) (now (state .entry)) (svfWords (svfNext (svfOf (now (state .entry))) «in_»))
-        (now (out .entry)) (svfOut (modeOf mode) (svfOf (now (state .entry))) «in_») r (now (state .exit)) (now (out .exit)) ⌝ }
+    ensures { λ r. ⌜ Answers (unknownRefusal mode) (now (state .entry)) (svfFields (svfNext (svfFrom (now (state .entry))) «in_»))
+        (now (out .entry)) (svfOut (modeOf mode) (svfFrom (now (state .entry))) «in_») r (now (state .exit)) (now (out .exit)) ⌝ }
 {
     if LAST < mode {
         return UNKNOWN;
     }
-    let t = filter_words::svf_of(state).process(in_, filter_words::mode_of(mode));
+    let t = filter_fields::svf_from(state).process(in_, filter_fields::mode_of(mode));
     *out = t.out;
-    *state = filter_words::svf_words(t.filter);
+    *state = filter_fields::svf_fields(t.filter);
     0
 }
 
@@ -127,10 +129,10 @@ pub extern "C" fn svf_process_dual(
     mode_1: u8,
     mode_2: u8,
 ) -> u8
-    ensures first { λ r. ⌜ Answers (firstRefusal (unknownRefusal «mode_1») (unknownRefusal «mode_2»)) (now (state .entry)) (svfWords (svfNext (svfOf (now (state .entry))) «in_»))
-        (now («out_1» .entry)) (svfOut (modeOf «mode_1») (svfOf (now (state .entry))) «in_») r (now (state .exit)) (now («out_1» .exit)) ⌝ }
-    ensures second { λ r. ⌜ Answers (firstRefusal (unknownRefusal «mode_1») (unknownRefusal «mode_2»)) (now (state .entry)) (svfWords (svfNext (svfOf (now (state .entry))) «in_»))
-        (now («out_2» .entry)) (svfOut (modeOf «mode_2») (svfOf (now (state .entry))) «in_») r (now (state .exit)) (now («out_2» .exit)) ⌝ }
+    ensures first { λ r. ⌜ Answers (firstRefusal (unknownRefusal «mode_1») (unknownRefusal «mode_2»)) (now (state .entry)) (svfFields (svfNext (svfFrom (now (state .entry))) «in_»))
+        (now («out_1» .entry)) (svfOut (modeOf «mode_1») (svfFrom (now (state .entry))) «in_») r (now (state .exit)) (now («out_1» .exit)) ⌝ }
+    ensures second { λ r. ⌜ Answers (firstRefusal (unknownRefusal «mode_1») (unknownRefusal «mode_2»)) (now (state .entry)) (svfFields (svfNext (svfFrom (now (state .entry))) «in_»))
+        (now («out_2» .entry)) (svfOut (modeOf «mode_2») (svfFrom (now (state .entry))) «in_») r (now (state .exit)) (now («out_2» .exit)) ⌝ }
 {
     if LAST < mode_1 {
         return UNKNOWN;
@@ -138,14 +140,14 @@ pub extern "C" fn svf_process_dual(
     if LAST < mode_2 {
         return UNKNOWN;
     }
-    let s = filter_words::svf_of(state).process_dual(
+    let s = filter_fields::svf_from(state).process_dual(
         in_,
         out_1,
         out_2,
-        filter_words::mode_of(mode_1),
-        filter_words::mode_of(mode_2),
+        filter_fields::mode_of(mode_1),
+        filter_fields::mode_of(mode_2),
     );
-    *state = filter_words::svf_words(s);
+    *state = filter_fields::svf_fields(s);
     0
 }
 
@@ -156,14 +158,14 @@ pub extern "C" fn svf_process_buffer(
     out: &mut [f32],
     mode: u8,
 ) -> u8
-    ensures { λ r. ⌜ Runs svfOf svfWords (unknownRefusal mode) (each svfNext) (puts (svfOut (modeOf mode)))
+    ensures { λ r. ⌜ Runs svfFrom svfFields (unknownRefusal mode) (each svfNext) (puts (svfOut (modeOf mode)))
         (now (state .entry)) (within (now («in_» .entry)) (now (out .entry))) (now (out .entry)) r (now (state .exit)) (now (out .exit)) ⌝ }
 {
     if LAST < mode {
         return UNKNOWN;
     }
-    let s = filter_words::svf_of(state).process_buffer(in_, out, filter_words::mode_of(mode));
-    filter_words::svf_retain(state, s);
+    let s = filter_fields::svf_from(state).process_buffer(in_, out, filter_fields::mode_of(mode));
+    filter_fields::svf_retain(state, s);
     0
 }
 
@@ -176,19 +178,19 @@ pub extern "C" fn svf_process_add_buffer(
     gain: f32,
     mode: u8,
 ) -> u8
-    ensures { λ r. ⌜ Runs svfOf svfWords (unknownRefusal mode) (each svfNext) (puts (svfGained (modeOf mode) gain))
+    ensures { λ r. ⌜ Runs svfFrom svfFields (unknownRefusal mode) (each svfNext) (puts (svfGained (modeOf mode) gain))
         (now (state .entry)) (within (now («in_» .entry)) (now (out .entry))) (now (out .entry)) r (now (state .exit)) (now (out .exit)) ⌝ }
 {
     if LAST < mode {
         return UNKNOWN;
     }
-    let s = filter_words::svf_of(state).process_add_buffer(
+    let s = filter_fields::svf_from(state).process_add_buffer(
         in_,
         out,
         gain,
-        filter_words::mode_of(mode),
+        filter_fields::mode_of(mode),
     );
-    filter_words::svf_retain(state, s);
+    filter_fields::svf_retain(state, s);
     0
 }
 
@@ -201,22 +203,22 @@ pub extern "C" fn svf_process_stride_buffer(
     stride: usize,
     mode: u8,
 ) -> u8
-    ensures { λ r. ⌜ Runs svfOf svfWords (firstRefusal (unknownRefusal mode) (stepRefusal stride)) (eachDue stride svfNext) (putsDue stride (svfOut (modeOf mode)))
+    ensures { λ r. ⌜ Runs svfFrom svfFields (firstRefusal (unknownRefusal mode) (stepRefusal stride)) (eachDue stride svfNext) (putsDue stride (svfOut (modeOf mode)))
         (now (state .entry)) (within (now («in_» .entry)) (now (out .entry))) (now (out .entry)) r (now (state .exit)) (now (out .exit)) ⌝ }
 {
     if LAST < mode {
         return UNKNOWN;
     }
-    let t = filter_words::svf_of(state).process_stride_buffer(
+    let t = filter_fields::svf_from(state).process_stride_buffer(
         in_,
         out,
         stride,
-        filter_words::mode_of(mode),
+        filter_fields::mode_of(mode),
     );
     if t.number != 0 {
         return t.number;
     }
-    filter_words::svf_retain(state, t.filter);
+    filter_fields::svf_retain(state, t.filter);
     0
 }
 
@@ -227,11 +229,11 @@ pub extern "C" fn svf_process_multimode_buffer(
     out: &mut [f32],
     mode: f32,
 )
-    ensures { λ _. ⌜ (now (state .exit) ≡ svfWords (stateAfter (each svfNext) 0 (svfOf (now (state .entry))) (within (now («in_» .entry)) (now (out .entry)))))
-        × (now (out .exit) ≡ bufferAfter (each svfNext) (puts (svfMultimode mode)) 0 (svfOf (now (state .entry))) (within (now («in_» .entry)) (now (out .entry))) (now (out .entry))) ⌝ }
+    ensures { λ _. ⌜ Filters svfFrom svfFields (each svfNext) (puts (svfMultimode mode))
+        (now (state .entry)) (within (now («in_» .entry)) (now (out .entry))) (now (out .entry)) (now (state .exit)) (now (out .exit)) ⌝ }
 {
-    let s = filter_words::svf_of(state).process_multimode_buffer(in_, out, mode);
-    filter_words::svf_retain(state, s);
+    let s = filter_fields::svf_from(state).process_multimode_buffer(in_, out, mode);
+    filter_fields::svf_retain(state, s);
 }
 
 #[no_mangle]
@@ -244,22 +246,22 @@ pub extern "C" fn svf_process_add_dual_buffer(
     gain_2: f32,
     mode: u8,
 ) -> u8
-    ensures first { λ r. ⌜ Runs svfOf svfWords (unknownRefusal mode) (each svfNext) (puts (svfGained (modeOf mode) «gain_1»)) (now (state .entry))
+    ensures first { λ r. ⌜ Runs svfFrom svfFields (unknownRefusal mode) (each svfNext) (puts (svfGained (modeOf mode) «gain_1»)) (now (state .entry))
         (within (within (now («in_» .entry)) (now («out_1» .entry))) (now («out_2» .entry))) (now («out_1» .entry)) r (now (state .exit)) (now («out_1» .exit)) ⌝ }
-    ensures second { λ r. ⌜ Runs svfOf svfWords (unknownRefusal mode) (each svfNext) (puts (svfGained (modeOf mode) «gain_2»)) (now (state .entry))
+    ensures second { λ r. ⌜ Runs svfFrom svfFields (unknownRefusal mode) (each svfNext) (puts (svfGained (modeOf mode) «gain_2»)) (now (state .entry))
         (within (within (now («in_» .entry)) (now («out_1» .entry))) (now («out_2» .entry))) (now («out_2» .entry)) r (now (state .exit)) (now («out_2» .exit)) ⌝ }
 {
     if LAST < mode {
         return UNKNOWN;
     }
-    let s = filter_words::svf_of(state).process_add_dual_buffer(
+    let s = filter_fields::svf_from(state).process_add_dual_buffer(
         in_,
         out_1,
         out_2,
         gain_1,
         gain_2,
-        filter_words::mode_of(mode),
+        filter_fields::mode_of(mode),
     );
-    filter_words::svf_retain(state, s);
+    filter_fields::svf_retain(state, s);
     0
 }

@@ -33,9 +33,7 @@ fn three(w: &[f32; 8]) -> [f32; 3] {
 }
 
 fn put_three(w: &mut [f32; 8], s: [f32; 3]) {
-    w[0] = s[0];
-    w[1] = s[1];
-    w[2] = s[2];
+    *w = [s[0], s[1], s[2], w[3], w[4], w[5], w[6], w[7]];
 }
 
 fn four(w: &[f32; 8]) -> [f32; 4] {
@@ -43,10 +41,7 @@ fn four(w: &[f32; 8]) -> [f32; 4] {
 }
 
 fn put_four(w: &mut [f32; 8], s: [f32; 4]) {
-    w[0] = s[0];
-    w[1] = s[1];
-    w[2] = s[2];
-    w[3] = s[3];
+    *w = [s[0], s[1], s[2], s[3], w[4], w[5], w[6], w[7]];
 }
 
 fn five(w: &[f32; 8]) -> [f32; 5] {
@@ -54,179 +49,215 @@ fn five(w: &[f32; 8]) -> [f32; 5] {
 }
 
 fn put_five(w: &mut [f32; 8], s: [f32; 5]) {
-    w[0] = s[0];
-    w[1] = s[1];
-    w[2] = s[2];
-    w[3] = s[3];
-    w[4] = s[4];
+    *w = [s[0], s[1], s[2], s[3], s[4], w[5], w[6], w[7]];
 }
 
-fn dc_blocker(method: u32, t: Settings, s: &mut [f32; 3]) -> u8 {
-    if method == 10 {
-        dc_blocker_calls::dc_blocker_new(s);
-        return 0;
-    }
-    if method == 11 {
-        dc_blocker_calls::dc_blocker_init(s, t.p);
-        return 0;
-    }
-    NO_METHOD
+fn dc_blocker(method: u32, t: Settings, w: &mut [f32; 8]) -> u8 {
+    let mut s = three(w);
+    let number = match method {
+        10 => {
+            dc_blocker_calls::dc_blocker_new(&mut s);
+            0
+        }
+        11 => {
+            dc_blocker_calls::dc_blocker_init(&mut s, t.p);
+            0
+        }
+        _ => NO_METHOD,
+    };
+    put_three(w, s);
+    number
 }
 
-fn one_pole(method: u32, t: Settings, s: &mut [f32; 3], y: &mut f32) -> u8 {
-    if method == 20 {
-        one_pole_calls::one_pole_new(s);
-        return 0;
-    }
-    if method == 21 {
-        one_pole_calls::one_pole_init(s);
-        return 0;
-    }
-    if method == 22 {
-        one_pole_calls::one_pole_reset(s);
-        return 0;
-    }
-    if method == 23 {
-        return one_pole_calls::one_pole_tan(t.p, t.a, y);
-    }
-    if method == 24 {
-        return one_pole_calls::one_pole_set_f(s, t.p, t.a);
-    }
-    if method == 25 {
-        return one_pole_calls::one_pole_process(s, t.p, t.a, y);
-    }
-    NO_METHOD
+fn one_pole_settings(method: u32, t: Settings, w: &mut [f32; 8]) -> u8 {
+    let mut s = three(w);
+    let number = match method {
+        20 => {
+            one_pole_calls::one_pole_new(&mut s);
+            0
+        }
+        21 => {
+            one_pole_calls::one_pole_init(&mut s);
+            0
+        }
+        22 => {
+            one_pole_calls::one_pole_reset(&mut s);
+            0
+        }
+        24 => one_pole_calls::one_pole_set_f(&mut s, t.p, t.a),
+        _ => NO_METHOD,
+    };
+    put_three(w, s);
+    number
 }
 
-fn svf_settings(method: u32, t: Settings, s: &mut [f32; 5], other: &[f32; 5]) -> u8 {
-    if method == 30 {
-        svf_calls::svf_new(s);
-        return 0;
-    }
-    if method == 31 {
-        svf_calls::svf_init(s);
-        return 0;
-    }
-    if method == 32 {
-        svf_calls::svf_reset(s);
-        return 0;
-    }
-    if method == 33 {
-        svf_calls::svf_set(s, other);
-        return 0;
-    }
-    if method == 34 {
-        svf_calls::svf_set_g_r_h(s, t.p, t.q, t.r);
-        return 0;
-    }
-    if method == 35 {
-        svf_calls::svf_set_g_r(s, t.p, t.q);
-        return 0;
-    }
-    if method == 36 {
-        svf_calls::svf_set_g_q(s, t.p, t.q);
-        return 0;
-    }
-    if method == 37 {
-        return svf_calls::svf_set_f_q(s, t.p, t.q, t.a);
-    }
-    NO_METHOD
+fn one_pole_sample(t: Settings, w: &mut [f32; 8], y: &mut f32) -> u8 {
+    let mut s = three(w);
+    let number = one_pole_calls::one_pole_process(&mut s, t.p, t.a, y);
+    put_three(w, s);
+    number
 }
 
-fn svf(method: u32, t: Settings, s: &mut [f32; 5], y: &mut f32, z: &mut f32) -> u8 {
-    if method == 38 {
-        *y = svf_calls::svf_g(s);
-        return 0;
+fn one_pole(method: u32, t: Settings, w: &mut [f32; 8], y: &mut f32) -> u8 {
+    match method {
+        23 => one_pole_calls::one_pole_tan(t.p, t.a, y),
+        25 => one_pole_sample(t, w, y),
+        _ => one_pole_settings(method, t, w),
     }
-    if method == 39 {
-        *y = svf_calls::svf_r(s);
-        return 0;
-    }
-    if method == 40 {
-        *y = svf_calls::svf_h(s);
-        return 0;
-    }
-    if method == 41 {
-        return svf_calls::svf_process(s, t.p, t.a, y);
-    }
-    if method == 42 {
-        return svf_calls::svf_process_dual(s, t.p, y, z, t.a, t.b);
-    }
-    NO_METHOD
 }
 
-fn naive_svf(method: u32, t: Settings, s: &mut [f32; 4], y: &mut f32) -> u8 {
-    if method == 50 {
-        naive_svf_calls::naive_svf_new(s);
-        return 0;
-    }
-    if method == 51 {
-        naive_svf_calls::naive_svf_init(s);
-        return 0;
-    }
-    if method == 52 {
-        naive_svf_calls::naive_svf_reset(s);
-        return 0;
-    }
-    if method == 53 {
-        return naive_svf_calls::naive_svf_set_f_q(s, t.p, t.q, t.a);
-    }
-    if method == 54 {
-        *y = naive_svf_calls::naive_svf_lp(s);
-        return 0;
-    }
-    if method == 55 {
-        *y = naive_svf_calls::naive_svf_bp(s);
-        return 0;
-    }
-    if method == 56 {
-        return naive_svf_calls::naive_svf_process(s, t.p, t.a, y);
-    }
-    NO_METHOD
+fn svf_states(method: u32, w: &mut [f32; 8], input: &[f32; 8]) -> u8 {
+    let mut s = five(w);
+    let other = five(input);
+    let number = match method {
+        30 => {
+            svf_calls::svf_new(&mut s);
+            0
+        }
+        31 => {
+            svf_calls::svf_init(&mut s);
+            0
+        }
+        32 => {
+            svf_calls::svf_reset(&mut s);
+            0
+        }
+        33 => {
+            svf_calls::svf_set(&mut s, &other);
+            0
+        }
+        _ => NO_METHOD,
+    };
+    put_five(w, s);
+    number
 }
 
-fn modified_svf(method: u32, t: Settings, s: &mut [f32; 5]) -> u8 {
-    if method == 60 {
-        modified_svf_calls::modified_svf_new(s);
-        return 0;
-    }
-    if method == 61 {
-        modified_svf_calls::modified_svf_init(s);
-        return 0;
-    }
-    if method == 62 {
-        modified_svf_calls::modified_svf_reset(s);
-        return 0;
-    }
-    if method == 63 {
-        modified_svf_calls::modified_svf_set_f_fq(s, t.p, t.q);
-        return 0;
-    }
-    NO_METHOD
+fn svf_settings(method: u32, t: Settings, w: &mut [f32; 8]) -> u8 {
+    let mut s = five(w);
+    let number = match method {
+        34 => {
+            svf_calls::svf_set_g_r_h(&mut s, t.p, t.q, t.r);
+            0
+        }
+        35 => {
+            svf_calls::svf_set_g_r(&mut s, t.p, t.q);
+            0
+        }
+        36 => {
+            svf_calls::svf_set_g_q(&mut s, t.p, t.q);
+            0
+        }
+        37 => svf_calls::svf_set_f_q(&mut s, t.p, t.q, t.a),
+        _ => NO_METHOD,
+    };
+    put_five(w, s);
+    number
 }
 
-fn crossover_svf(method: u32, t: Settings, s: &mut [f32; 8]) -> u8 {
-    if method == 70 {
-        crossover_svf_calls::crossover_svf_new(s);
-        return 0;
-    }
-    if method == 71 {
-        crossover_svf_calls::crossover_svf_init(s);
-        return 0;
-    }
-    if method == 72 {
-        crossover_svf_calls::crossover_svf_reset(s);
-        return 0;
-    }
-    if method == 73 {
-        crossover_svf_calls::crossover_svf_set_f_fq(s, t.p, t.q);
-        return 0;
-    }
-    NO_METHOD
+fn svf_read(method: u32, w: &[f32; 8], y: &mut f32) -> u8 {
+    let s = five(w);
+    *y = match method {
+        38 => svf_calls::svf_g(&s),
+        39 => svf_calls::svf_r(&s),
+        _ => svf_calls::svf_h(&s),
+    };
+    0
 }
 
-// A call for one sample, or for none.
-pub fn sample(
+fn svf_sample(method: u32, t: Settings, w: &mut [f32; 8], y: &mut f32, z: &mut f32) -> u8 {
+    let mut s = five(w);
+    let number = match method {
+        41 => svf_calls::svf_process(&mut s, t.p, t.a, y),
+        42 => svf_calls::svf_process_dual(&mut s, t.p, y, z, t.a, t.b),
+        _ => NO_METHOD,
+    };
+    put_five(w, s);
+    number
+}
+
+fn naive_svf_settings(method: u32, t: Settings, w: &mut [f32; 8]) -> u8 {
+    let mut s = four(w);
+    let number = match method {
+        50 => {
+            naive_svf_calls::naive_svf_new(&mut s);
+            0
+        }
+        51 => {
+            naive_svf_calls::naive_svf_init(&mut s);
+            0
+        }
+        52 => {
+            naive_svf_calls::naive_svf_reset(&mut s);
+            0
+        }
+        53 => naive_svf_calls::naive_svf_set_f_q(&mut s, t.p, t.q, t.a),
+        _ => NO_METHOD,
+    };
+    put_four(w, s);
+    number
+}
+
+fn naive_svf_read(method: u32, w: &[f32; 8], y: &mut f32) -> u8 {
+    let s = four(w);
+    *y = match method {
+        54 => naive_svf_calls::naive_svf_lp(&s),
+        _ => naive_svf_calls::naive_svf_bp(&s),
+    };
+    0
+}
+
+fn naive_svf_sample(t: Settings, w: &mut [f32; 8], y: &mut f32) -> u8 {
+    let mut s = four(w);
+    let number = naive_svf_calls::naive_svf_process(&mut s, t.p, t.a, y);
+    put_four(w, s);
+    number
+}
+
+fn naive_svf(method: u32, t: Settings, w: &mut [f32; 8], y: &mut f32) -> u8 {
+    match method {
+        54 | 55 => naive_svf_read(method, w, y),
+        56 => naive_svf_sample(t, w, y),
+        _ => naive_svf_settings(method, t, w),
+    }
+}
+
+fn modified_svf(method: u32, t: Settings, w: &mut [f32; 8]) -> u8 {
+    let mut s = five(w);
+    let number = match method {
+        60 => {
+            modified_svf_calls::modified_svf_new(&mut s);
+            0
+        }
+        61 => {
+            modified_svf_calls::modified_svf_init(&mut s);
+            0
+        }
+        62 => {
+            modified_svf_calls::modified_svf_reset(&mut s);
+            0
+        }
+        63 => {
+            modified_svf_calls::modified_svf_set_f_fq(&mut s, t.p, t.q);
+            0
+        }
+        _ => NO_METHOD,
+    };
+    put_five(w, s);
+    number
+}
+
+fn crossover_svf(method: u32, t: Settings, w: &mut [f32; 8]) -> u8 {
+    match method {
+        70 => crossover_svf_calls::crossover_svf_new(w),
+        71 => crossover_svf_calls::crossover_svf_init(w),
+        72 => crossover_svf_calls::crossover_svf_reset(w),
+        73 => crossover_svf_calls::crossover_svf_set_f_fq(w, t.p, t.q),
+        _ => return NO_METHOD,
+    }
+    0
+}
+
+fn svf(
     method: u32,
     t: Settings,
     w: &mut [f32; 8],
@@ -234,47 +265,34 @@ pub fn sample(
     y: &mut f32,
     z: &mut f32,
 ) -> u8 {
-    if method < 20 {
-        let mut s = three(w);
-        let number = dc_blocker(method, t, &mut s);
-        put_three(w, s);
-        return number;
+    match method {
+        30..=33 => svf_states(method, w, input),
+        34..=37 => svf_settings(method, t, w),
+        38..=40 => svf_read(method, w, y),
+        _ => svf_sample(method, t, w, y, z),
     }
-    if method < 30 {
-        let mut s = three(w);
-        let number = one_pole(method, t, &mut s, y);
-        put_three(w, s);
-        return number;
-    }
-    if method < 38 {
-        let mut s = five(w);
-        let other = five(input);
-        let number = svf_settings(method, t, &mut s, &other);
-        put_five(w, s);
-        return number;
-    }
-    if method < 50 {
-        let mut s = five(w);
-        let number = svf(method, t, &mut s, y, z);
-        put_five(w, s);
-        return number;
-    }
-    if method < 60 {
-        let mut s = four(w);
-        let number = naive_svf(method, t, &mut s, y);
-        put_four(w, s);
-        return number;
-    }
-    if method < 70 {
-        let mut s = five(w);
-        let number = modified_svf(method, t, &mut s);
-        put_five(w, s);
-        return number;
-    }
-    crossover_svf(method, t, w)
 }
 
-fn svf_buffers(
+// A call for one sample, or for none.
+pub(crate) fn sample(
+    method: u32,
+    t: Settings,
+    w: &mut [f32; 8],
+    input: &[f32; 8],
+    y: &mut f32,
+    z: &mut f32,
+) -> u8 {
+    match method {
+        10..=19 => dc_blocker(method, t, w),
+        20..=29 => one_pole(method, t, w, y),
+        30..=49 => svf(method, t, w, input, y, z),
+        50..=59 => naive_svf(method, t, w, y),
+        60..=69 => modified_svf(method, t, w),
+        _ => crossover_svf(method, t, w),
+    }
+}
+
+fn svf_form(
     method: u32,
     t: Settings,
     s: &mut [f32; 5],
@@ -301,7 +319,7 @@ fn svf_buffers(
     NO_METHOD
 }
 
-fn naive_svf_buffers(
+fn naive_svf_form(
     method: u32,
     t: Settings,
     s: &mut [f32; 4],
@@ -336,6 +354,34 @@ fn modified_svf_buffer(t: Settings, w: &mut [f32; 8], in_: &[f32], out: &mut [f3
     number
 }
 
+fn svf_buffers(
+    method: u32,
+    t: Settings,
+    w: &mut [f32; 8],
+    in_: &[f32],
+    out_1: &mut [f32],
+    out_2: &mut [f32],
+) -> u8 {
+    let mut s = five(w);
+    let number = svf_form(method, t, &mut s, in_, out_1, out_2);
+    put_five(w, s);
+    number
+}
+
+fn naive_svf_buffers(
+    method: u32,
+    t: Settings,
+    w: &mut [f32; 8],
+    in_: &[f32],
+    out_1: &mut [f32],
+    out_2: &mut [f32],
+) -> u8 {
+    let mut s = four(w);
+    let number = naive_svf_form(method, t, &mut s, in_, out_1, out_2);
+    put_four(w, s);
+    number
+}
+
 fn whole(
     method: u32,
     t: Settings,
@@ -354,19 +400,13 @@ fn whole(
         return crossover_svf_calls::crossover_svf_process(w, in_, out_1, t.a);
     }
     if method < 150 {
-        let mut s = five(w);
-        let number = svf_buffers(method, t, &mut s, in_, out_1, out_2);
-        put_five(w, s);
-        return number;
+        return svf_buffers(method, t, w, in_, out_1, out_2);
     }
-    let mut s = four(w);
-    let number = naive_svf_buffers(method, t, &mut s, in_, out_1, out_2);
-    put_four(w, s);
-    number
+    naive_svf_buffers(method, t, w, in_, out_1, out_2)
 }
 
 // A buffer form, over parts of its buffers.
-pub fn buffers(
+pub(crate) fn buffers(
     method: u32,
     t: Settings,
     n: Lengths,

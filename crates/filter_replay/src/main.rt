@@ -20,43 +20,51 @@ fn wide(n: u32) -> u64 {
     n as u64
 }
 
-fn agrees(w: &[u32; 68]) -> bool {
-    let mut state = record::eight(w, 12);
-    let input = record::eight(w, 20);
-    let mut out_1 = record::eight(w, 28);
-    let mut out_2 = record::eight(w, 36);
-    let settings = Settings {
+fn settings(w: &[u32; 68]) -> Settings {
+    Settings {
         a: low_byte(w[1]),
         b: low_byte(w[2]),
         step: (wide(w[3]) | (wide(w[4]) << 32)) as usize,
         p: words::word_to_f32(w[5]),
         q: words::word_to_f32(w[6]),
         r: words::word_to_f32(w[7]),
-    };
+    }
+}
+
+fn lengths(w: &[u32; 68]) -> Lengths {
+    Lengths {
+        input: wide(w[8]) as usize,
+        out_1: wide(w[9]) as usize,
+        out_2: wide(w[10]) as usize,
+    }
+}
+
+// Calls the method with what the record says: the state and the outputs become what the call leaves.
+fn answer(
+    w: &[u32; 68],
+    state: &mut [f32; 8],
+    input: &[f32; 8],
+    out_1: &mut [f32; 8],
+    out_2: &mut [f32; 8],
+) -> u8 {
     let method = w[0];
-    let number = if method < 100 {
-        let mut y = out_1[0];
-        let mut z = out_2[0];
-        let n = calls::sample(method, settings, &mut state, &input, &mut y, &mut z);
-        out_1[0] = y;
-        out_2[0] = z;
-        n
-    } else {
-        let lengths = Lengths {
-            input: wide(w[8]) as usize,
-            out_1: wide(w[9]) as usize,
-            out_2: wide(w[10]) as usize,
-        };
-        calls::buffers(
-            method,
-            settings,
-            lengths,
-            &mut state,
-            &input,
-            &mut out_1,
-            &mut out_2,
-        )
-    };
+    if 100 <= method {
+        return calls::buffers(method, settings(w), lengths(w), state, input, out_1, out_2);
+    }
+    let mut y = out_1[0];
+    let mut z = out_2[0];
+    let number = calls::sample(method, settings(w), state, input, &mut y, &mut z);
+    out_1[0] = y;
+    out_2[0] = z;
+    number
+}
+
+fn agrees(w: &[u32; 68]) -> bool {
+    let mut state = record::eight(w, 12);
+    let input = record::eight(w, 20);
+    let mut out_1 = record::eight(w, 28);
+    let mut out_2 = record::eight(w, 36);
+    let number = answer(w, &mut state, &input, &mut out_1, &mut out_2);
     if wide(w[11]) != number as u64 {
         return false;
     }

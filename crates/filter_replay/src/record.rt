@@ -13,7 +13,7 @@ fn word_at(b: &[u8; 272], at: usize) -> u32 {
 }
 
 // The record that a block holds.
-pub fn record(b: &[u8; 272]) -> [u32; 68] {
+pub(crate) fn record(b: &[u8; 272]) -> [u32; 68] {
     let mut w = [0u32; 68];
     let mut i = 0usize;
     while i < 68 {
@@ -23,20 +23,28 @@ pub fn record(b: &[u8; 272]) -> [u32; 68] {
     w
 }
 
+// The word at a place, as a float; 0 past the end.
+fn float_at(w: &[u32; 68], at: usize) -> f32 {
+    if 67 < at {
+        return 0.0;
+    }
+    words::word_to_f32(w[at])
+}
+
 // Eight words from the place `at` on, as floats; 0 past the end.
-pub fn eight(w: &[u32; 68], at: usize) -> [f32; 8] {
+pub(crate) fn eight(w: &[u32; 68], at: usize) -> [f32; 8] {
     if 60 < at {
         return [0.0; 8];
     }
     [
-        words::word_to_f32(w[at]),
-        words::word_to_f32(w[at + 1]),
-        words::word_to_f32(w[at + 2]),
-        words::word_to_f32(w[at + 3]),
-        words::word_to_f32(w[at + 4]),
-        words::word_to_f32(w[at + 5]),
-        words::word_to_f32(w[at + 6]),
-        words::word_to_f32(w[at + 7]),
+        float_at(w, at),
+        float_at(w, at + 1),
+        float_at(w, at + 2),
+        float_at(w, at + 3),
+        float_at(w, at + 4),
+        float_at(w, at + 5),
+        float_at(w, at + 6),
+        float_at(w, at + 7),
     ]
 }
 
@@ -49,16 +57,15 @@ fn is(x: f32, w: &[u32; 68], at: usize) -> bool {
 }
 
 // Whether eight floats are the words from the place `at` on.
-pub fn same(x: &[f32; 8], w: &[u32; 68], at: usize) -> bool {
+pub(crate) fn same(x: &[f32; 8], w: &[u32; 68], at: usize) -> bool {
     if 60 < at {
         return false;
     }
-    is(x[0], w, at)
-        && is(x[1], w, at + 1)
-        && is(x[2], w, at + 2)
-        && is(x[3], w, at + 3)
-        && is(x[4], w, at + 4)
-        && is(x[5], w, at + 5)
-        && is(x[6], w, at + 6)
-        && is(x[7], w, at + 7)
+    let mut i = 0usize;
+    let mut all = true;
+    while i < 8 {
+        all = all && is(x[i], w, at + i);
+        i += 1;
+    }
+    all
 }

@@ -21,15 +21,15 @@ modifiedSetFFq s f fq = record { f = f; fq = fq; x = zeroᶠ; lp = s .lp; bp = s
 
 -- ---- one sample
 
-abbrev pub modifiedLow : ModifiedSvf → Float
+abbrev modifiedLow : ModifiedSvf → Float
 modifiedLow s = s .lp +ᶠ s .f *ᶠ s .bp
 
 -- the band of the low-pass and high-pass modes
-abbrev pub modifiedPlainBand : ModifiedSvf → Float → Float
+abbrev modifiedPlainBand : ModifiedSvf → Float → Float
 modifiedPlainBand s x = s .bp +ᶠ (negᶠ (s .fq) *ᶠ s .bp -ᶠ s .f *ᶠ modifiedLow s +ᶠ x)
 
 -- the band-pass modes add the last sample
-abbrev pub modifiedBand : FilterMode → ModifiedSvf → Float → Float
+abbrev modifiedBand : FilterMode → ModifiedSvf → Float → Float
 modifiedBand m s x = byMode m (modifiedPlainBand s x) (modifiedPlainBand s x +ᶠ s .x) (modifiedPlainBand s x +ᶠ s .x) (modifiedPlainBand s x)
 
 -- the filter after the sample x

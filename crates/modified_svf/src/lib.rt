@@ -96,8 +96,7 @@ impl ModifiedSvf {
         while i < n {
             let t = f.process_sample(in_[i], mode);
             out[i] = t.out;
-            let next = t.filter;
-            f = next;
+            f = t.filter;
             i += 1;
         }
         f

@@ -1,2 +1,1 @@
-pub mod Sine
 pub mod NaiveSvf

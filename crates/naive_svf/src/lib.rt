@@ -3,12 +3,11 @@
 use filter_core::FilterMode;
 use filter_core::FrequencyApproximation;
 ghost use mathlib.Core.Path.{_≡_};
+ghost use Prim.Native.Nat.{_<_};
 ghost use Rattle.filter_core.specs.Buffer.{Filtered, within, each, puts, putsDue};
 ghost use Rattle.filter_core.specs.Refusal.{Answered, frequencyRefusal, unlessRefused};
-ghost use Rattle.naive_svf.specs.Sine.{clipAt, sineSeries, naiveExact, naiveLinear, naiveFrequency};
 ghost use Rattle.naive_svf.specs.NaiveSvf.{naiveNew, naiveReset, naiveSetFQ, naiveInit};
 ghost use Rattle.naive_svf.specs.NaiveSvf.{naiveNormalized, naiveLow, naiveBand, naiveHigh, naiveNext, naiveOut};
-ghost use Rattle.filter_core.specs.Arithmetic.{zeroᶠ};
 
 pub struct NaiveSvf {
     pub f: f32,
@@ -36,36 +35,7 @@ struct Taps {
     high: f32,
 }
 
-// A frequency coefficient, or the refusal's number and 0.0.
-struct Frequency {
-    number: u8,
-    value: f32,
-}
-
-fn clip_at(limit: f32, f: f32) -> f32
-    ensures { λ r. ⌜ r ≡ clipAt limit f ⌝ }
-{
-    if f < limit { f } else { limit }
-}
-
 impl NaiveSvf {
-    pub const PI: f32 = 3.1415927;
-
-    // Where Exact clips, and where the others do.
-    pub const EXACT_CLIP: f32 = 0.497;
-
-    pub const CLIP: f32 = 0.158;
-
-    // Abramowitz and Stegun 4.3.97: sin x / x by powers of x * x.
-    const SINE_ROW: [f32; 6] = [
-        1.0,
-        -0.1666666664,
-        0.0083333315,
-        -0.0001984090,
-        0.0000027526,
-        -0.0000000239,
-    ];
-
     pub fn new() -> Self
         ensures { λ r. ⌜ r ≡ naiveNew ⌝ }
     {
@@ -96,59 +66,6 @@ impl NaiveSvf {
         }
     }
 
-    // sin x by the series.
-    fn sine_series(x: f32) -> f32
-        ensures { λ r. ⌜ r ≡ sineSeries x ⌝ }
-    {
-        let row = Self::SINE_ROW;
-        x * filter_core::series(x * x, &row)
-    }
-
-    fn exact_frequency(f: f32) -> f32
-        ensures { λ r. ⌜ r ≡ naiveExact f ⌝ }
-    {
-        2.0 * Self::sine_series(Self::PI * clip_at(Self::EXACT_CLIP, f))
-    }
-
-    fn linear_frequency(f: f32) -> f32
-        ensures { λ r. ⌜ r ≡ naiveLinear f ⌝ }
-    {
-        2.0 * Self::PI * clip_at(Self::CLIP, f)
-    }
-
-    fn frequency(f: f32, approximation: FrequencyApproximation) -> Frequency
-        ensures { λ r. ⌜ (r .number ≡ frequencyRefusal f approximation)
-            × (r .value ≡ unlessRefused (frequencyRefusal f approximation) zeroᶠ (naiveFrequency f approximation)) ⌝ }
-    {
-        match approximation {
-            FrequencyApproximation::Exact => {
-                if f < 0.0 {
-                    Frequency {
-                        number: 11,
-                        value: 0.0,
-                    }
-                } else {
-                    Frequency {
-                        number: 0,
-                        value: Self::exact_frequency(f),
-                    }
-                }
-            }
-            FrequencyApproximation::Accurate => Frequency {
-                number: 0,
-                value: Self::linear_frequency(f),
-            },
-            FrequencyApproximation::Fast => Frequency {
-                number: 0,
-                value: Self::linear_frequency(f),
-            },
-            FrequencyApproximation::Dirty => Frequency {
-                number: 0,
-                value: Self::linear_frequency(f),
-            },
-        }
-    }
-
     pub fn set_f_q(
         self,
         f: f32,
@@ -158,17 +75,17 @@ impl NaiveSvf {
         ensures { λ r. ⌜ (r .number ≡ frequencyRefusal f approximation)
             × (r .filter ≡ unlessRefused (frequencyRefusal f approximation) self (naiveSetFQ self f resonance approximation)) ⌝ }
     {
-        let t = Self::frequency(f, approximation);
-        if t.number != 0 {
+        let number = filter_core::frequency_refusal(f, approximation);
+        if number != 0 {
             return NaiveSvfAnswer {
-                number: t.number,
+                number: number,
                 filter: self,
             };
         }
         NaiveSvfAnswer {
             number: 0,
             filter: Self {
-                f: t.value,
+                f: sine::frequency(f, approximation),
                 damp: 1.0 / resonance,
                 lp: self.lp,
                 bp: self.bp,
@@ -229,8 +146,7 @@ impl NaiveSvf {
         while i < n {
             let t = f.process(in_[i], mode);
             out[i] = t.out;
-            let next = t.filter;
-            f = next;
+            f = t.filter;
             i += 1;
         }
         f
@@ -247,10 +163,9 @@ impl NaiveSvf {
         let mut i = 0usize;
         while i < n {
             let t = f.taps(in_[i]);
-            let next = t.filter;
-            low[i] = next.lp;
+            f = t.filter;
+            low[i] = f.lp;
             high[i] = t.high;
-            f = next;
             i += 1;
         }
         f
@@ -267,12 +182,29 @@ impl NaiveSvf {
         ensures { λ r. ⌜ Answered decimate (each naiveNext) (putsDue decimate (naiveOut mode)) self (within (now («in_» .entry)) (now (out .entry)))
             (now (out .entry)) (r .number) (r .filter) (now (out .exit)) ⌝ }
     {
-        if decimate == 0 {
+        let number = filter_core::step_refusal(decimate);
+        if number != 0 {
             return NaiveSvfAnswer {
-                number: 10,
+                number: number,
                 filter: self,
             };
         }
+        NaiveSvfAnswer {
+            number: 0,
+            filter: self.decimate_buffer(in_, out, decimate, mode),
+        }
+    }
+
+    fn decimate_buffer(
+        self,
+        in_: &[f32],
+        out: &mut [f32],
+        decimate: usize,
+        mode: FilterMode,
+    ) -> Self
+        requires { ⌜ 0 < decimate ⌝ }
+        ensures { λ r. ⌜ Filtered (each naiveNext) (putsDue decimate (naiveOut mode)) self (within (now («in_» .entry)) (now (out .entry))) (now (out .entry)) r (now (out .exit)) ⌝ }
+    {
         let n = filter_core::shortest(in_.len(), out.len());
         let mut f = self;
         let mut i = 0usize;
@@ -280,8 +212,7 @@ impl NaiveSvf {
         let mut left = 0usize;
         while i < n {
             let t = f.process(in_[i], mode);
-            let next = t.filter;
-            f = next;
+            f = t.filter;
             if left == 0 {
                 out[i] = t.out;
                 left = decimate - 1;
@@ -291,9 +222,6 @@ impl NaiveSvf {
                 i += 1;
             }
         }
-        NaiveSvfAnswer {
-            number: 0,
-            filter: f,
-        }
+        f
     }
 }

@@ -1,2 +1,1 @@
-pub mod Tangent
 pub mod OnePole

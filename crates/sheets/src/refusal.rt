@@ -57,13 +57,7 @@ fn word_refusal(used: u8, k: u8, w: u32) -> u8
 fn frequency_refusal(a: u32, approximation: FrequencyApproximation) -> u8
     ensures { λ r. ⌜ r ≡ frequencyRefusal (word a) approximation ⌝ }
 {
-    let f = words::word_to_f32(a);
-    match approximation {
-        FrequencyApproximation::Exact => if f < 0.0 { 11 } else { 0 },
-        FrequencyApproximation::Accurate => 0,
-        FrequencyApproximation::Fast => 0,
-        FrequencyApproximation::Dirty => 0,
-    }
+    filter_core::frequency_refusal(words::word_to_f32(a), approximation)
 }
 
 fn setting_refusal(setter: Setter, a: u32) -> u8

@@ -1,12 +1,12 @@
 -- The zero-delay-feedback state-variable filter, by the source's equations.
-use mathlib.Core.Bool.{cond}
-use lib.Ieee.{Float, lt}
-use Rattle.filter_core.specs.Arithmetic.{_+ᶠ_, _-ᶠ_, _*ᶠ_, _/ᶠ_, negᶠ, word, zeroᶠ, halfᶠ, oneᶠ, twoᶠ}
+use lib.Ieee.{Float}
+use Rattle.filter_core.specs.Arithmetic.{_+ᶠ_, _-ᶠ_, _*ᶠ_, _/ᶠ_, word, zeroᶠ, oneᶠ}
 use Rattle.filter_core.specs.Mode.{byMode}
 use Rattle.filter_core.specs.declared.FilterMode.{FilterMode}
 use Rattle.filter_core.specs.declared.FrequencyApproximation.{FrequencyApproximation}
 use Rattle.filter_core.specs.declared.FrequencyApproximation.the-variants.{Dirty}
-use Rattle.one_pole.specs.Tangent.{tanOf}
+use Rattle.multimode.specs.Multimode.{highGain, bandGain, lowGain}
+use Rattle.tangent.specs.Tangent.{tanOf}
 use Rattle.svf.specs.declared.Svf.{Svf}
 
 abbrev pub svfNew : Svf
@@ -69,15 +69,6 @@ abbrev pub svfGained : FilterMode → Float → Svf → Float → Float
 svfGained m gain s x = svfOut m s x *ᶠ gain
 
 -- ---- multimode: low-pass at 0, high-pass at 0.5, band-pass at 1
-
-abbrev pub highGain : Float → Float
-highGain m = cond (lt m halfᶠ) (negᶠ m *ᶠ twoᶠ) (negᶠ twoᶠ +ᶠ m *ᶠ twoᶠ)
-
-abbrev pub bandGain : Float → Float
-bandGain m = cond (lt m halfᶠ) zeroᶠ (m *ᶠ twoᶠ -ᶠ oneᶠ)
-
-abbrev pub lowGain : Float → Float
-lowGain m = cond (lt m halfᶠ) (oneᶠ -ᶠ m *ᶠ twoᶠ) zeroᶠ
 
 unfoldable pub svfMixed : Float → Float → Float → Svf → Float → Float
 svfMixed high band low s x = high *ᶠ svfHigh s x +ᶠ band *ᶠ svfBand s x +ᶠ low *ᶠ svfLow s x

@@ -2,14 +2,13 @@
 
 use filter_core::FilterMode;
 use filter_core::FrequencyApproximation;
-use one_pole::OnePole;
 ghost use mathlib.Core.Path.{_≡_};
-ghost use Prim.Native.Nat.{_+_, min};
+ghost use Prim.Native.Nat.{_+_, _<_, min};
 ghost use Rattle.filter_core.specs.Buffer.{Filtered, within, each, puts, eachDue, putsDue};
 ghost use Rattle.filter_core.specs.Refusal.{Answered, frequencyRefusal, unlessRefused};
 ghost use Rattle.svf.specs.Svf.{svfNew, svfReset, svfSet, svfSetGRH, svfSetGR, svfSetGQ, svfSetFQ, svfInit};
 ghost use Rattle.svf.specs.Svf.{svfHigh, svfBand, svfLow, svfNext, svfOut, svfGained};
-ghost use Rattle.svf.specs.Svf.{highGain, bandGain, lowGain, svfMixed, svfMultimode};
+ghost use Rattle.svf.specs.Svf.{svfMixed, svfMultimode};
 
 pub struct Svf {
     pub g: f32,
@@ -47,29 +46,6 @@ fn leap(i: usize, stride: usize, n: usize) -> usize
         return n;
     }
     if stride < n - i { i + stride } else { n }
-}
-
-// The gains of multimode, which goes from low-pass at 0 by high-pass at 0.5 to band-pass at 1.
-fn high_gain(mode: f32) -> f32
-    ensures { λ r. ⌜ r ≡ highGain mode ⌝ }
-{
-    if mode < 0.5 {
-        -mode * 2.0
-    } else {
-        -2.0 + mode * 2.0
-    }
-}
-
-fn band_gain(mode: f32) -> f32
-    ensures { λ r. ⌜ r ≡ bandGain mode ⌝ }
-{
-    if mode < 0.5 { 0.0 } else { mode * 2.0 - 1.0 }
-}
-
-fn low_gain(mode: f32) -> f32
-    ensures { λ r. ⌜ r ≡ lowGain mode ⌝ }
-{
-    if mode < 0.5 { 1.0 - mode * 2.0 } else { 0.0 }
 }
 
 impl Svf {
@@ -140,16 +116,16 @@ impl Svf {
         ensures { λ r. ⌜ (r .number ≡ frequencyRefusal f approximation)
             × (r .filter ≡ unlessRefused (frequencyRefusal f approximation) self (svfSetFQ self f resonance approximation)) ⌝ }
     {
-        let t = OnePole::tan(f, approximation);
-        if t.number != 0 {
+        let number = filter_core::frequency_refusal(f, approximation);
+        if number != 0 {
             return SvfAnswer {
-                number: t.number,
+                number: number,
                 filter: self,
             };
         }
         SvfAnswer {
             number: 0,
-            filter: self.set_g_q(t.value, resonance),
+            filter: self.set_g_q(tangent::tan(f, approximation), resonance),
         }
     }
 
@@ -243,8 +219,7 @@ impl Svf {
         while i < n {
             let t = f.process(in_[i], mode);
             out[i] = t.out;
-            let next = t.filter;
-            f = next;
+            f = t.filter;
             i += 1;
         }
         f
@@ -266,8 +241,7 @@ impl Svf {
         while i < n {
             let t = f.process(in_[i], mode);
             out[i] = t.out * gain;
-            let next = t.filter;
-            f = next;
+            f = t.filter;
             i += 1;
         }
         f
@@ -284,34 +258,41 @@ impl Svf {
         ensures { λ r. ⌜ Answered stride (eachDue stride svfNext) (putsDue stride (svfOut mode)) self (within (now («in_» .entry)) (now (out .entry)))
             (now (out .entry)) (r .number) (r .filter) (now (out .exit)) ⌝ }
     {
-        if stride == 0 {
+        let number = filter_core::step_refusal(stride);
+        if number != 0 {
             return SvfAnswer {
-                number: 10,
+                number: number,
                 filter: self,
             };
         }
+        SvfAnswer {
+            number: 0,
+            filter: self.stride_buffer(in_, out, stride, mode),
+        }
+    }
+
+    fn stride_buffer(self, in_: &[f32], out: &mut [f32], stride: usize, mode: FilterMode) -> Self
+        requires { ⌜ 0 < stride ⌝ }
+        ensures { λ r. ⌜ Filtered (eachDue stride svfNext) (putsDue stride (svfOut mode)) self (within (now («in_» .entry)) (now (out .entry))) (now (out .entry)) r (now (out .exit)) ⌝ }
+    {
         let n = filter_core::shortest(in_.len(), out.len());
         let mut f = self;
         let mut i = 0usize;
         while i < n {
             let t = f.process(in_[i], mode);
             out[i] = t.out;
-            let next = t.filter;
-            f = next;
+            f = t.filter;
             i = leap(i, stride, n);
         }
-        SvfAnswer {
-            number: 0,
-            filter: f,
-        }
+        f
     }
 
     pub fn process_multimode_buffer(self, in_: &[f32], out: &mut [f32], mode: f32) -> Self
         ensures { λ r. ⌜ Filtered (each svfNext) (puts (svfMultimode mode)) self (within (now («in_» .entry)) (now (out .entry))) (now (out .entry)) r (now (out .exit)) ⌝ }
     {
-        let high = high_gain(mode);
-        let band = band_gain(mode);
-        let low = low_gain(mode);
+        let high = multimode::high_gain(mode);
+        let band = multimode::band_gain(mode);
+        let low = multimode::low_gain(mode);
         self.mixed_buffer(in_, out, high, band, low)
     }
 
@@ -324,8 +305,7 @@ impl Svf {
         while i < n {
             let t = f.mixed(in_[i], high, band, low);
             out[i] = t.out;
-            let next = t.filter;
-            f = next;
+            f = t.filter;
             i += 1;
         }
         f
@@ -352,8 +332,7 @@ impl Svf {
             let t = f.process(in_[i], mode);
             out_1[i] = t.out * gain_1;
             out_2[i] = t.out * gain_2;
-            let next = t.filter;
-            f = next;
+            f = t.filter;
             i += 1;
         }
         f

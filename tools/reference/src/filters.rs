@@ -191,8 +191,8 @@ impl Filter {
     pub fn rest(&mut self) {
         match self {
             Filter::Dc(f) => {
-                let [pole, _, _] = f.words();
-                *f = DcBlocker::of_words([pole, 0.0, 0.0]);
+                let [pole, _, _] = f.fields();
+                *f = DcBlocker::from_fields([pole, 0.0, 0.0]);
             }
             Filter::OnePole(f) => f.reset(),
             Filter::Svf(f) => f.reset(),
@@ -205,12 +205,12 @@ impl Filter {
     /// The type's name and the retained numbers, in the source's order.
     pub fn shown(&self) -> (&'static str, Vec<f32>) {
         match self {
-            Filter::Dc(f) => ("dc", f.words().to_vec()),
-            Filter::OnePole(f) => ("onepole", f.words().to_vec()),
-            Filter::Svf(f) => ("svf", f.words().to_vec()),
-            Filter::Naive(f) => ("naive", f.words().to_vec()),
-            Filter::Modified(f) => ("modified", f.words().to_vec()),
-            Filter::Crossover(f) => ("crossover", f.words().to_vec()),
+            Filter::Dc(f) => ("dc", f.fields().to_vec()),
+            Filter::OnePole(f) => ("onepole", f.fields().to_vec()),
+            Filter::Svf(f) => ("svf", f.fields().to_vec()),
+            Filter::Naive(f) => ("naive", f.fields().to_vec()),
+            Filter::Modified(f) => ("modified", f.fields().to_vec()),
+            Filter::Crossover(f) => ("crossover", f.fields().to_vec()),
         }
     }
 }

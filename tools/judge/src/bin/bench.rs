@@ -122,16 +122,16 @@ fn main() {
     bench.row(
         "DcBlocker::process",
         &mut |x, _| {
-            let mut s = oracle::DcBlocker::of_words(w);
+            let mut s = oracle::DcBlocker::from_fields(w);
             let s = black_box(&mut s);
             s.process(x);
-            black_box(s).words().to_vec()
+            black_box(s).fields().to_vec()
         },
         &mut |x, _| {
-            let mut s = proved::DcBlocker::of_words(w);
+            let mut s = proved::DcBlocker::from_fields(w);
             let s = black_box(&mut s);
             s.process(x);
-            black_box(s).words().to_vec()
+            black_box(s).fields().to_vec()
         },
     );
     bench.in_place = false;
@@ -145,19 +145,19 @@ fn main() {
                     &format!("{} {mode}", $name),
                     &mut |$x, $y| {
                         let _ = &$y;
-                        let mut $s = oracle::$type::of_words(w);
+                        let mut $s = oracle::$type::from_fields(w);
                         let $s = black_box(&mut $s);
                         let $m = black_box(p);
                         let _ = $call;
-                        black_box($s).words().to_vec()
+                        black_box($s).fields().to_vec()
                     },
                     &mut |$x, $y| {
                         let _ = &$y;
-                        let mut $s = proved::$type::of_words(w);
+                        let mut $s = proved::$type::from_fields(w);
                         let $s = black_box(&mut $s);
                         let $m = black_box(q);
                         let _ = $call;
-                        black_box($s).words().to_vec()
+                        black_box($s).fields().to_vec()
                     },
                 );
             }
@@ -165,19 +165,19 @@ fn main() {
                 &format!("{} LowPass, fixed", $name),
                 &mut |$x, $y| {
                     let _ = &$y;
-                    let mut $s = oracle::$type::of_words(w);
+                    let mut $s = oracle::$type::from_fields(w);
                     let $s = black_box(&mut $s);
                     let $m = Theirs::LowPass;
                     let _ = $call;
-                    black_box($s).words().to_vec()
+                    black_box($s).fields().to_vec()
                 },
                 &mut |$x, $y| {
                     let _ = &$y;
-                    let mut $s = proved::$type::of_words(w);
+                    let mut $s = proved::$type::from_fields(w);
                     let $s = black_box(&mut $s);
                     let $m = Ours::LowPass;
                     let _ = $call;
-                    black_box($s).words().to_vec()
+                    black_box($s).fields().to_vec()
                 },
             );
         }};
@@ -186,7 +186,7 @@ fn main() {
     let w = {
         let mut s = oracle::Svf::new();
         s.set_f_q(0.1, 1.5, oracle::FrequencyApproximation::Exact);
-        s.words()
+        s.fields()
     };
     by_mode!(Svf, w, "Svf::process_buffer", |s, x, y, m| s
         .process_buffer(&input, x, m));
@@ -198,16 +198,16 @@ fn main() {
         bench.row(
             &format!("Svf::process_multimode_buffer {mode}"),
             &mut |x, _| {
-                let mut s = oracle::Svf::of_words(w);
+                let mut s = oracle::Svf::from_fields(w);
                 let s = black_box(&mut s);
                 s.process_multimode_buffer(&input, x, black_box(mode));
-                black_box(s).words().to_vec()
+                black_box(s).fields().to_vec()
             },
             &mut |x, _| {
-                let mut s = proved::Svf::of_words(w);
+                let mut s = proved::Svf::from_fields(w);
                 let s = black_box(&mut s);
                 s.process_multimode_buffer(&input, x, black_box(mode));
-                black_box(s).words().to_vec()
+                black_box(s).fields().to_vec()
             },
         );
     }
@@ -217,23 +217,23 @@ fn main() {
     let w = {
         let mut s = oracle::NaiveSvf::new();
         s.set_f_q(0.1, 1.5, oracle::FrequencyApproximation::Exact);
-        s.words()
+        s.fields()
     };
     by_mode!(NaiveSvf, w, "NaiveSvf::process_buffer", |s, x, y, m| s
         .process_buffer(&input, x, m));
     bench.row(
         "NaiveSvf::split",
         &mut |x, y| {
-            let mut s = oracle::NaiveSvf::of_words(w);
+            let mut s = oracle::NaiveSvf::from_fields(w);
             let s = black_box(&mut s);
             s.split(&input, x, y);
-            black_box(s).words().to_vec()
+            black_box(s).fields().to_vec()
         },
         &mut |x, y| {
-            let mut s = proved::NaiveSvf::of_words(w);
+            let mut s = proved::NaiveSvf::from_fields(w);
             let s = black_box(&mut s);
             s.split(&input, x, y);
-            black_box(s).words().to_vec()
+            black_box(s).fields().to_vec()
         },
     );
     by_mode!(

@@ -135,7 +135,7 @@ fn unknown(n: &mut Numbers) -> u8 {
 // Both sides from the same words.
 macro_rules! pair {
     ($type:ident, $w:expr) => {
-        (oracle::$type::of_words($w), proved::$type::of_words($w))
+        (oracle::$type::from_fields($w), proved::$type::from_fields($w))
     };
 }
 
@@ -146,7 +146,7 @@ macro_rules! same {
         $t.at(concat!(stringify!($type), "::", $name), format!("{:?} {:?}", $w, ($($arg,)*)));
         a.$call($($arg),*);
         b.$call($($arg),*);
-        $t.words("the field", &a.words(), &b.words());
+        $t.words("the field", &a.fields(), &b.fields());
     }};
 }
 
@@ -156,13 +156,13 @@ fn news(t: &mut Tally) {
             t.at(concat!(stringify!($type), "::new"), String::new());
             t.words(
                 "the field",
-                &oracle::$type::new().words(),
-                &proved::$type::new().words(),
+                &oracle::$type::new().fields(),
+                &proved::$type::new().fields(),
             );
             t.words(
                 "the field",
-                &oracle::$type::default().words(),
-                &proved::$type::default().words(),
+                &oracle::$type::default().fields(),
+                &proved::$type::default().fields(),
             );
             let (a, b) = (
                 format!("{:?}", oracle::$type::new()),
@@ -192,7 +192,7 @@ fn dc_blocker(n: &mut Numbers, t: &mut Tally, tame: bool) {
     a.process(&mut x);
     b.process(&mut y);
     t.words("the place", &x, &y);
-    t.words("the field", &a.words(), &b.words());
+    t.words("the field", &a.fields(), &b.fields());
 }
 
 fn one_pole(n: &mut Numbers, t: &mut Tally, tame: bool) {
@@ -213,9 +213,9 @@ fn one_pole(n: &mut Numbers, t: &mut Tally, tame: bool) {
         t.refusal(refusal, number(&b.set_f(f, q)));
         if refusal == 0 {
             a.set_f(f, p);
-            t.words("the field", &a.words(), &b.words());
+            t.words("the field", &a.fields(), &b.fields());
         } else {
-            t.stays("the field", &w, &b.words());
+            t.stays("the field", &w, &b.fields());
         }
     }
     for (p, q) in MODES {
@@ -224,7 +224,7 @@ fn one_pole(n: &mut Numbers, t: &mut Tally, tame: bool) {
         for _ in 0..8 {
             let x = n.value(tame);
             t.words("the output", &[a.process(x, p)], &[b.process(x, q)]);
-            t.words("the field", &a.words(), &b.words());
+            t.words("the field", &a.fields(), &b.fields());
         }
     }
     let (mode, mut state, mut out) = (unknown(n), w, n.any());
@@ -256,7 +256,7 @@ fn svf(n: &mut Numbers, t: &mut Tally, tame: bool) {
     t.at("Svf::set", format!("{w:?} {v:?}"));
     a.set(&c);
     b.set(&d);
-    t.words("the field", &a.words(), &b.words());
+    t.words("the field", &a.fields(), &b.fields());
     t.at("Svf::g, r, h", format!("{v:?}"));
     t.words("g, r, h", &[c.g(), c.r(), c.h()], &[d.g(), d.r(), d.h()]);
     for (p, q) in APPROXIMATIONS {
@@ -267,20 +267,20 @@ fn svf(n: &mut Numbers, t: &mut Tally, tame: bool) {
         t.refusal(refusal, number(&b.set_f_q(f, resonance, q)));
         if refusal == 0 {
             a.set_f_q(f, resonance, p);
-            t.words("the field", &a.words(), &b.words());
+            t.words("the field", &a.fields(), &b.fields());
         } else {
-            t.stays("the field", &w, &b.words());
+            t.stays("the field", &w, &b.fields());
         }
     }
     // Settings that a user would have, half of the time.
     let w = if tame && n.below(2) == 0 {
-        let mut s = oracle::Svf::of_words(w);
+        let mut s = oracle::Svf::from_fields(w);
         s.set_f_q(
             n.frequency(),
             1.0 + n.frequency(),
             oracle::FrequencyApproximation::Exact,
         );
-        s.words()
+        s.fields()
     } else {
         w
     };
@@ -290,7 +290,7 @@ fn svf(n: &mut Numbers, t: &mut Tally, tame: bool) {
         for _ in 0..8 {
             let x = n.value(tame);
             t.words("the output", &[a.process(x, p)], &[b.process(x, q)]);
-            t.words("the field", &a.words(), &b.words());
+            t.words("the field", &a.fields(), &b.fields());
         }
         for (p2, q2) in MODES {
             t.at("Svf::process_dual", format!("{w:?} {p:?} {p2:?}"));
@@ -301,7 +301,7 @@ fn svf(n: &mut Numbers, t: &mut Tally, tame: bool) {
             let [u1, u2] = &mut u;
             b.process_dual(x, u1, u2, q, q2);
             t.words("the output", &o, &u);
-            t.words("the field", &a.words(), &b.words());
+            t.words("the field", &a.fields(), &b.fields());
         }
         let input = {
             let l = n.length();
@@ -324,7 +324,7 @@ fn svf(n: &mut Numbers, t: &mut Tally, tame: bool) {
                 $theirs(&mut a, &mut $x);
                 $ours(&mut b, &mut $y);
                 t.words("the place", &$x, &$y);
-                t.words("the field", &a.words(), &b.words());
+                t.words("the field", &a.fields(), &b.fields());
             }};
         }
         form!(
@@ -385,13 +385,13 @@ fn svf(n: &mut Numbers, t: &mut Tally, tame: bool) {
         b.process_add_dual_buffer(&input, &mut y, &mut y2, g1, g2, q);
         t.words("the first place", &x, &y);
         t.words("the second place", &x2, &y2);
-        t.words("the field", &a.words(), &b.words());
+        t.words("the field", &a.fields(), &b.fields());
 
-        let mut b = proved::Svf::of_words(w);
+        let mut b = proved::Svf::from_fields(w);
         let mut y = out.clone();
         t.at("Svf, refused", format!("{w:?} {p:?}"));
         t.refusal(10, number(&b.process_stride_buffer(&input, &mut y, 0, q)));
-        t.stays("the field", &w, &b.words());
+        t.stays("the field", &w, &b.fields());
         t.stays("the place", &out, &y);
         let (mut state, mut z, bad) = (w, out_2.clone(), unknown(n));
         let (l, o) = (input.len(), out.len());
@@ -462,9 +462,9 @@ fn naive(n: &mut Numbers, t: &mut Tally, tame: bool) {
         t.refusal(refusal, number(&b.set_f_q(f, resonance, q)));
         if refusal == 0 {
             a.set_f_q(f, resonance, p);
-            t.words("the field", &a.words(), &b.words());
+            t.words("the field", &a.fields(), &b.fields());
         } else {
-            t.stays("the field", &w, &b.words());
+            t.stays("the field", &w, &b.fields());
         }
     }
     for (k, (p, q)) in MODES.into_iter().enumerate() {
@@ -473,7 +473,7 @@ fn naive(n: &mut Numbers, t: &mut Tally, tame: bool) {
         for _ in 0..8 {
             let x = n.value(tame);
             t.words("the output", &[a.process(x, p)], &[b.process(x, q)]);
-            t.words("the field", &a.words(), &b.words());
+            t.words("the field", &a.fields(), &b.fields());
         }
         let input = {
             let l = n.length();
@@ -497,7 +497,7 @@ fn naive(n: &mut Numbers, t: &mut Tally, tame: bool) {
         a.process_buffer(&input, &mut x, p);
         b.process_buffer(&input, &mut y, q);
         t.words("the place", &x, &y);
-        t.words("the field", &a.words(), &b.words());
+        t.words("the field", &a.fields(), &b.fields());
 
         let (mut a, mut b) = pair!(NaiveSvf, w);
         let (mut x, mut y, mut x2, mut y2) = (out.clone(), out.clone(), high.clone(), high.clone());
@@ -514,7 +514,7 @@ fn naive(n: &mut Numbers, t: &mut Tally, tame: bool) {
         b.split(&input, &mut y, &mut y2);
         t.words("the low place", &x, &y);
         t.words("the high place", &x2, &y2);
-        t.words("the field", &a.words(), &b.words());
+        t.words("the field", &a.fields(), &b.fields());
 
         let (mut a, mut b) = pair!(NaiveSvf, w);
         let (mut x, mut y) = (out.clone(), out.clone());
@@ -530,13 +530,13 @@ fn naive(n: &mut Numbers, t: &mut Tally, tame: bool) {
         a.process_decimate(&input, &mut x, decimate, p);
         t.refusal(0, number(&b.process_decimate(&input, &mut y, decimate, q)));
         t.words("the place", &x, &y);
-        t.words("the field", &a.words(), &b.words());
+        t.words("the field", &a.fields(), &b.fields());
 
-        let mut b = proved::NaiveSvf::of_words(w);
+        let mut b = proved::NaiveSvf::from_fields(w);
         let mut y = out.clone();
         t.at("NaiveSvf, refused", format!("{w:?} {p:?}"));
         t.refusal(10, number(&b.process_decimate(&input, &mut y, 0, q)));
-        t.stays("the field", &w, &b.words());
+        t.stays("the field", &w, &b.fields());
         let (mut state, mut o1, bad) = (w, 3.0f32, unknown(n));
         let (l, o, i, yp) = (input.len(), out.len(), input.as_ptr(), y.as_mut_ptr());
         unsafe {
@@ -587,7 +587,7 @@ macro_rules! chamberlin {
                 a.process(&input, &mut x, p);
                 b.process(&input, &mut y, q);
                 t.words("the place", &x, &y);
-                t.words("the field", &a.words(), &b.words());
+                t.words("the field", &a.fields(), &b.fields());
 
                 let (mut state, mut y, bad) = (w, out.clone(), unknown(n));
                 t.at(
@@ -697,14 +697,14 @@ fn full() {
             &format!("NaiveSvf::set_f_q {p:?}"),
             exact,
             |f| {
-                let mut s = proved::NaiveSvf::of_words([0.0; 4]);
+                let mut s = proved::NaiveSvf::from_fields([0.0; 4]);
                 s.set_f_q(f, 1.0, q)?;
-                Ok(s.words()[0])
+                Ok(s.fields()[0])
             },
             |f| {
-                let mut s = oracle::NaiveSvf::of_words([0.0; 4]);
+                let mut s = oracle::NaiveSvf::from_fields([0.0; 4]);
                 s.set_f_q(f, 1.0, p);
-                s.words()[0]
+                s.fields()[0]
             },
         );
     }

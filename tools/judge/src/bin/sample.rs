@@ -69,25 +69,25 @@ impl Call {
         macro_rules! on {
             ($type:ident, |$s:ident| $call:expr) => {{
                 #[allow(unused_mut)]
-                let mut $s = $type::of_words(self.of());
+                let mut $s = $type::from_fields(self.of());
                 $call;
-                self.keep($s.words());
+                self.keep($s.fields());
             }};
         }
         match self.method {
-            10 => self.keep(DcBlocker::new().words()),
+            10 => self.keep(DcBlocker::new().fields()),
             11 => on!(DcBlocker, |s| s.init(p)),
-            20 => self.keep(OnePole::new().words()),
+            20 => self.keep(OnePole::new().fields()),
             21 => on!(OnePole, |s| s.init()),
             22 => on!(OnePole, |s| s.reset()),
             23 => out_1[0] = OnePole::tan(p, approximation),
             24 => on!(OnePole, |s| s.set_f(p, approximation)),
             25 => on!(OnePole, |s| out_1[0] = s.process(p, mode)),
-            30 => self.keep(Svf::new().words()),
+            30 => self.keep(Svf::new().fields()),
             31 => on!(Svf, |s| s.init()),
             32 => on!(Svf, |s| s.reset()),
             33 => on!(Svf, |s| s
-                .set(&Svf::of_words(std::array::from_fn(|k| input[k])))),
+                .set(&Svf::from_fields(std::array::from_fn(|k| input[k])))),
             34 => on!(Svf, |s| s.set_g_r_h(p, q, r)),
             35 => on!(Svf, |s| s.set_g_r(p, q)),
             36 => on!(Svf, |s| s.set_g_q(p, q)),
@@ -103,18 +103,18 @@ impl Call {
                 mode,
                 mode_2
             )),
-            50 => self.keep(NaiveSvf::new().words()),
+            50 => self.keep(NaiveSvf::new().fields()),
             51 => on!(NaiveSvf, |s| s.init()),
             52 => on!(NaiveSvf, |s| s.reset()),
             53 => on!(NaiveSvf, |s| s.set_f_q(p, q, approximation)),
             54 => on!(NaiveSvf, |s| out_1[0] = s.lp()),
             55 => on!(NaiveSvf, |s| out_1[0] = s.bp()),
             56 => on!(NaiveSvf, |s| out_1[0] = s.process(p, mode)),
-            60 => self.keep(ModifiedSvf::new().words()),
+            60 => self.keep(ModifiedSvf::new().fields()),
             61 => on!(ModifiedSvf, |s| s.init()),
             62 => on!(ModifiedSvf, |s| s.reset()),
             63 => on!(ModifiedSvf, |s| s.set_f_fq(p, q)),
-            70 => self.keep(CrossoverSvf::new().words()),
+            70 => self.keep(CrossoverSvf::new().fields()),
             71 => on!(CrossoverSvf, |s| s.init()),
             72 => on!(CrossoverSvf, |s| s.reset()),
             73 => on!(CrossoverSvf, |s| s.set_f_fq(p, q)),

@@ -1,3 +1,4 @@
+use borrow.Author.Needs.{needs}
 use Prim.Native.Nat.{_-_}
 use Rattle.filter_core.specs.Buffer.{each, puts}
 use Rattle.filter_core.proofs.Passes.{Going, passing}
@@ -17,15 +18,15 @@ process-spec =
     (tie.spec
     Inv-loop
     μ-loop
-    (λ c κs. search passing)
+    (λ c κs. search needs)
     (λ c. search passing)
+    (λ c. search needs)
+    (λ c. search needs)
+    (λ c κs. search needs)
+    (λ c. search needs)
+    (λ c. search needs)
+    (λ c. search needs)
+    (λ c. search needs)
     (λ c. search passing)
-    (λ c. search passing)
-    (λ c κs. search passing)
-    (λ c. search passing)
-    (λ c. search passing)
-    (λ c. search passing)
-    (λ c. search passing)
-    (λ c. search passing)
-    (λ c. search passing)
+    (λ c. search needs)
     (λ c. search passing))

@@ -8,4 +8,4 @@ crossover-svf-new-spec =
     (tie.spec
     (λ c κs. search needs)
     (λ c κs. search needs)
-    (λ c. rw (c .crossover-svf-words .ensures, c .before .new .ensures)))
+    (λ c. rw (c .crossover-svf-fields .ensures, c .before .new .ensures)))

@@ -9,4 +9,4 @@ dc-blocker-init-spec =
     (λ c κs. search needs)
     (λ c κs. search needs)
     (λ c κs. search needs)
-    (λ c. rw (c .dc-blocker-words .ensures, c .before .init .ensures)))
+    (λ c. rw (c .dc-blocker-fields .ensures, c .before .init .ensures)))

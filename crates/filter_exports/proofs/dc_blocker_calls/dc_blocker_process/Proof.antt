@@ -1,4 +1,5 @@
 use borrow.Author.Needs.{needs}
+use Rattle.filter_exports.proofs.Accepted.{calls}
 use Rattle.filter_exports.proofs.dc_blocker_calls.dc_blocker_process.Statement.{statement}
 use Rattle.filter_exports.proofs.dc_blocker_calls.dc_blocker_process.Tie as tie
 
@@ -10,6 +11,4 @@ dc-blocker-process-spec =
     (λ c κs. search needs)
     (λ c κs. search needs)
     (λ c. search needs)
-    (λ c.
-    let e = rw (c .before .before .before .before .before .dc-blocker-of .ensures) at (c .before .before .before .process .ensures) in
-    (rw (c .dc-blocker-words .ensures, e .state), e .buffer)))
+    (λ c. search calls))

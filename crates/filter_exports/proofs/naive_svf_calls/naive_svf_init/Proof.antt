@@ -9,4 +9,4 @@ naive-svf-init-spec =
     (λ c κs. search needs)
     (λ c κs. search needs)
     (λ c κs. search needs)
-    (λ c. rw (c .naive-svf-words .ensures, c .before .init .ensures)))
+    (λ c. rw (c .naive-svf-fields .ensures, c .before .init .ensures)))

@@ -9,4 +9,4 @@ naive-svf-reset-spec =
     (λ c κs. search needs)
     (λ c κs. search needs)
     (λ c κs. search needs)
-    (λ c. rw (c .naive-svf-words .ensures, c .before .reset .ensures, c .before .before .naive-svf-of .ensures)))
+    (λ c. rw (c .naive-svf-fields .ensures, c .before .reset .ensures, c .before .before .naive-svf-from .ensures)))

@@ -1,4 +1,5 @@
 use borrow.Author.Needs.{needs}
+use Rattle.filter_exports.proofs.Accepted.{calls}
 use Rattle.filter_exports.proofs.naive_svf_calls.naive_svf_split.Statement.{statement}
 use Rattle.filter_exports.proofs.naive_svf_calls.naive_svf_split.Tie as tie
 
@@ -11,7 +12,4 @@ naive-svf-split-spec =
     (λ c κs. search needs)
     (λ c. search needs)
     (λ c. search needs)
-    (λ c.
-    let e = rw (c .before .before .before .before .before .before .before .before .naive-svf-of .ensures) at (c .before .before .before .before .before .split .ensures .0) in
-    let h = rw (c .before .before .before .before .before .before .before .before .naive-svf-of .ensures) at (c .before .before .before .before .before .split .ensures .1) in
-    ((rw (c .naive-svf-words .ensures, e .state), e .buffer), h .buffer)))
+    (λ c. search calls))

@@ -9,4 +9,4 @@ one-pole-init-spec =
     (λ c κs. search needs)
     (λ c κs. search needs)
     (λ c κs. search needs)
-    (λ c. rw (c .one-pole-words .ensures, c .before .init .ensures)))
+    (λ c. rw (c .one-pole-fields .ensures, c .before .init .ensures)))

@@ -9,4 +9,4 @@ one-pole-reset-spec =
     (λ c κs. search needs)
     (λ c κs. search needs)
     (λ c κs. search needs)
-    (λ c. rw (c .one-pole-words .ensures, c .before .reset .ensures, c .before .before .one-pole-of .ensures)))
+    (λ c. rw (c .one-pole-fields .ensures, c .before .reset .ensures, c .before .before .one-pole-from .ensures)))

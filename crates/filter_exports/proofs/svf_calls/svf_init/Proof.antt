@@ -9,4 +9,4 @@ svf-init-spec =
     (λ c κs. search needs)
     (λ c κs. search needs)
     (λ c κs. search needs)
-    (λ c. rw (c .svf-words .ensures, c .before .init .ensures)))
+    (λ c. rw (c .svf-fields .ensures, c .before .init .ensures)))

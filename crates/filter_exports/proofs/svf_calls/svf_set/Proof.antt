@@ -1,4 +1,5 @@
 use borrow.Author.Needs.{needs}
+use Rattle.filter_exports.proofs.Accepted.{calls}
 use Rattle.filter_exports.proofs.svf_calls.svf_set.Statement.{statement}
 use Rattle.filter_exports.proofs.svf_calls.svf_set.Tie as tie
 
@@ -10,4 +11,4 @@ svf-set-spec =
     (λ c κs. search needs)
     (λ c κs. search needs)
     (λ c κs. search needs)
-    (λ c. rw (c .svf-words .ensures, c .before .set .ensures, c .before .before .svf-of2 .ensures, c .before .before .before .svf-of .ensures)))
+    (λ c. search calls))

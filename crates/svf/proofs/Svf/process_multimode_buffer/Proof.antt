@@ -1,4 +1,5 @@
 use borrow.Author.Needs.{needs}
+use Rattle.svf.proofs.Steps.{steps}
 use Rattle.svf.proofs.Svf.process_multimode_buffer.Statement.{statement}
 use Rattle.svf.proofs.Svf.process_multimode_buffer.Tie as tie
 
@@ -11,4 +12,4 @@ process-multimode-buffer-spec =
     (λ c κs. search needs)
     (λ c κs. search needs)
     (λ c. search needs)
-    (λ c. simp (c .before .before .before .before .before .before .high-gain .ensures, c .before .before .before .before .before .band-gain .ensures, c .before .before .before .before .low-gain .ensures) at (c .before .before .mixed-buffer .ensures)))
+    (λ c. search steps))

@@ -1,6 +1,6 @@
-use mathlib.Core.Path.{sym, _∙_}
-use Rattle.filter_core.proofs.Refusals.{refusing, accepting}
 use borrow.Author.Needs.{needs}
+use Rattle.filter_core.proofs.Refusals.{refusals}
+use Rattle.svf.proofs.Steps.{set-by}
 use Rattle.svf.proofs.Svf.set_f_q.Statement.{statement}
 use Rattle.svf.proofs.Svf.set_f_q.Tie as tie
 
@@ -9,10 +9,7 @@ set-f-q-spec =
     tie.close
     (tie.spec
     (λ c κs. search needs)
-    (λ c. let e = c .before .before .tan .ensures .0 in (e, rw (refusing _ _ e (c .if1 .taken))))
+    (λ c. search refusals)
     (λ c κs. search needs)
-    (λ c.
-    let e = c .before .before .before .tan .ensures .0 in
-    let z = c .before .if1 .left in
-    let ok = accepting _ _ e z in
-    let v = rw ok at (c .before .before .before .tan .ensures .1) in (sym z ∙ e, rw (ok, c .set-g-q .ensures, v))))
+    (λ c κs. search needs)
+    (λ c. search (refusals, set-by)))

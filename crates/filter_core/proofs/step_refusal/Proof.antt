@@ -1,0 +1,10 @@
+use Rattle.filter_core.proofs.Refusals.{no-step, a-step}
+use Rattle.filter_core.proofs.step_refusal.Statement.{statement}
+use Rattle.filter_core.proofs.step_refusal.Tie as tie
+
+pub step-refusal-spec : {M : Type 1} → statement M
+step-refusal-spec =
+    tie.close
+    (tie.spec
+    (λ c. search (no-step, a-step))
+    (λ c. search (no-step, a-step)))

@@ -1,0 +1,33 @@
+-- The frequency coefficient: twice the sine of π f by the series of Abramowitz and Stegun, or 2 π f.
+use mathlib.Core.Bool.{cond}
+use mathlib.Core.List.{List, [], _∷_}
+use lib.Ieee.{Float, lt}
+use Rattle.filter_core.specs.Arithmetic.{_*ᶠ_, word, oneᶠ, twoᶠ, πᶠ}
+use Rattle.filter_core.specs.Series.{horner}
+use Rattle.filter_core.specs.declared.FrequencyApproximation.{FrequencyApproximation}
+use Rattle.filter_core.specs.declared.FrequencyApproximation.the-variants.{Exact, Accurate, Fast, Dirty}
+
+-- the limit where f is not below it, so at a NaN too
+abbrev pub clipAt : Float → Float → Float
+clipAt limit f = cond (lt f limit) f limit
+
+-- 4.3.97: 1, -0.1666666664, 0.0083333315, -0.0001984090, 0.0000027526, -0.0000000239
+abbrev sineRow : List Float
+sineRow = oneᶠ ∷ word 0xbe2a_aaab ∷ word 0x3c08_8887 ∷ word 0xb950_0c03 ∷ word 0x3638_b94f ∷ word 0xb2cd_4ca8 ∷ []
+
+abbrev pub sineSeries : Float → Float
+sineSeries x = x *ᶠ horner (x *ᶠ x) sineRow
+
+-- clipped at 0.497
+abbrev pub naiveExact : Float → Float
+naiveExact f = twoᶠ *ᶠ sineSeries (πᶠ *ᶠ clipAt (word 0x3efe_76c9) f)
+
+-- clipped at 0.158
+abbrev pub naiveLinear : Float → Float
+naiveLinear f = twoᶠ *ᶠ πᶠ *ᶠ clipAt (word 0x3e21_cac1) f
+
+abbrev pub naiveFrequency : Float → FrequencyApproximation → Float
+naiveFrequency f Exact = naiveExact f
+naiveFrequency f Accurate = naiveLinear f
+naiveFrequency f Fast = naiveLinear f
+naiveFrequency f Dirty = naiveLinear f
