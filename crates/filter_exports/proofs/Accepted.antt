@@ -11,7 +11,7 @@ use Rattle.filter_core.specs.Refusal.{Answered, stepRefusal, frequencyRefusal, 
 use Rattle.filter_core.specs.declared.FilterMode.{FilterMode}
 use Rattle.filter_core.specs.declared.FrequencyApproximation.{FrequencyApproximation}
 use Rattle.filter_core.proofs.Refusals.{accepting, zero-is}
-use Rattle.tangent.specs.Tangent.{tanOf}
+use Rattle.one_pole.specs.Tangent.{tanOf}
 use Rattle.one_pole.specs.OnePole.{onePoleSetF, onePoleNext, onePoleOut}
 use Rattle.one_pole.specs.declared.OnePole.{OnePole}
 use Rattle.svf.specs.Svf.{svfSet, svfSetFQ, svfNext, svfOut, svfGained, svfMultimode}

@@ -5,7 +5,7 @@ use crate::UNKNOWN;
 use one_pole::OnePole;
 ghost use mathlib.Core.Path.{_≡_};
 ghost use Rattle.filter_core.specs.Refusal.{frequencyRefusal};
-ghost use Rattle.tangent.specs.Tangent.{tanOf};
+ghost use Rattle.one_pole.specs.Tangent.{tanOf};
 ghost use Rattle.one_pole.specs.OnePole.{onePoleNew, onePoleInit, onePoleReset, onePoleSetF, onePoleNext, onePoleOut};
 ghost use Rattle.filter_fields.specs.Numbers.{modeOf, approximationOf, unknownRefusal, firstRefusal};
 ghost use Rattle.filter_fields.specs.Fields.{onePoleFrom, onePoleFields};

@@ -3,7 +3,7 @@ use mathlib.Core.Path.{_≡_}
 use lib.Ieee.{Float}
 use Rattle.filter_core.specs.Arithmetic.{_/ᶠ_, oneᶠ}
 use Rattle.filter_core.specs.declared.FrequencyApproximation.{FrequencyApproximation}
-use Rattle.sine.specs.Sine.{naiveFrequency}
+use Rattle.naive_svf.specs.Sine.{naiveFrequency}
 use Rattle.naive_svf.specs.NaiveSvf.{naiveSetFQ}
 use Rattle.naive_svf.specs.declared.NaiveSvf.{NaiveSvf}
 

@@ -1,1 +1,2 @@
+pub mod Sine
 pub mod NaiveSvf

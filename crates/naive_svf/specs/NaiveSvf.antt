@@ -5,7 +5,7 @@ use Rattle.filter_core.specs.Mode.{byMode}
 use Rattle.filter_core.specs.declared.FilterMode.{FilterMode}
 use Rattle.filter_core.specs.declared.FrequencyApproximation.{FrequencyApproximation}
 use Rattle.filter_core.specs.declared.FrequencyApproximation.the-variants.{Dirty}
-use Rattle.sine.specs.Sine.{naiveFrequency}
+use Rattle.naive_svf.specs.Sine.{naiveFrequency}
 use Rattle.naive_svf.specs.declared.NaiveSvf.{NaiveSvf}
 
 abbrev pub naiveNew : NaiveSvf

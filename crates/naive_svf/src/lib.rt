@@ -6,6 +6,7 @@ ghost use mathlib.Core.Path.{_≡_};
 ghost use Prim.Native.Nat.{_<_};
 ghost use Rattle.filter_core.specs.Buffer.{Filtered, within, each, puts, putsDue};
 ghost use Rattle.filter_core.specs.Refusal.{Answered, frequencyRefusal, unlessRefused};
+ghost use Rattle.naive_svf.specs.Sine.{clipAt, sineSeries, naiveExact, naiveLinear, naiveFrequency};
 ghost use Rattle.naive_svf.specs.NaiveSvf.{naiveNew, naiveReset, naiveSetFQ, naiveInit};
 ghost use Rattle.naive_svf.specs.NaiveSvf.{naiveNormalized, naiveLow, naiveBand, naiveHigh, naiveNext, naiveOut};
 
@@ -35,7 +36,30 @@ struct Taps {
     high: f32,
 }
 
+fn clip_at(limit: f32, f: f32) -> f32
+    ensures { λ r. ⌜ r ≡ clipAt limit f ⌝ }
+{
+    if f < limit { f } else { limit }
+}
+
 impl NaiveSvf {
+    pub const PI: f32 = 3.1415927;
+
+    // Where Exact clips, and where the others do, which take the sine for its argument.
+    pub const EXACT_CLIP: f32 = 0.497;
+
+    pub const LINEAR_CLIP: f32 = 0.158;
+
+    // Abramowitz and Stegun 4.3.97: sin x / x by powers of x * x.
+    const SINE_ROW: [f32; 6] = [
+        1.0,
+        -0.1666666664,
+        0.0083333315,
+        -0.0001984090,
+        0.0000027526,
+        -0.0000000239,
+    ];
+
     pub fn new() -> Self
         ensures { λ r. ⌜ r ≡ naiveNew ⌝ }
     {
@@ -66,6 +90,37 @@ impl NaiveSvf {
         }
     }
 
+    // sin x by the series.
+    fn sine_series(x: f32) -> f32
+        ensures { λ r. ⌜ r ≡ sineSeries x ⌝ }
+    {
+        let row = Self::SINE_ROW;
+        x * filter_core::series(x * x, &row)
+    }
+
+    fn exact_frequency(f: f32) -> f32
+        ensures { λ r. ⌜ r ≡ naiveExact f ⌝ }
+    {
+        2.0 * Self::sine_series(Self::PI * clip_at(Self::EXACT_CLIP, f))
+    }
+
+    fn linear_frequency(f: f32) -> f32
+        ensures { λ r. ⌜ r ≡ naiveLinear f ⌝ }
+    {
+        2.0 * Self::PI * clip_at(Self::LINEAR_CLIP, f)
+    }
+
+    fn frequency(f: f32, approximation: FrequencyApproximation) -> f32
+        ensures { λ r. ⌜ r ≡ naiveFrequency f approximation ⌝ }
+    {
+        match approximation {
+            FrequencyApproximation::Exact => Self::exact_frequency(f),
+            FrequencyApproximation::Accurate => Self::linear_frequency(f),
+            FrequencyApproximation::Fast => Self::linear_frequency(f),
+            FrequencyApproximation::Dirty => Self::linear_frequency(f),
+        }
+    }
+
     pub fn set_f_q(
         self,
         f: f32,
@@ -85,7 +140,7 @@ impl NaiveSvf {
         NaiveSvfAnswer {
             number: 0,
             filter: Self {
-                f: sine::frequency(f, approximation),
+                f: Self::frequency(f, approximation),
                 damp: 1.0 / resonance,
                 lp: self.lp,
                 bp: self.bp,

@@ -2,7 +2,7 @@
 use mathlib.Core.Path.{_≡_}
 use lib.Ieee.{Float}
 use Rattle.filter_core.specs.declared.FrequencyApproximation.{FrequencyApproximation}
-use Rattle.tangent.specs.Tangent.{tanOf}
+use Rattle.one_pole.specs.Tangent.{tanOf}
 use Rattle.one_pole.specs.OnePole.{onePoleSetG, onePoleSetF}
 use Rattle.one_pole.specs.declared.OnePole.{OnePole}
 

@@ -1,1 +1,2 @@
+pub mod Tangent
 pub mod OnePole

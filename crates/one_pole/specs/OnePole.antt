@@ -5,7 +5,7 @@ use Rattle.filter_core.specs.Mode.{byMode}
 use Rattle.filter_core.specs.declared.FilterMode.{FilterMode}
 use Rattle.filter_core.specs.declared.FrequencyApproximation.{FrequencyApproximation}
 use Rattle.filter_core.specs.declared.FrequencyApproximation.the-variants.{Dirty}
-use Rattle.tangent.specs.Tangent.{tanOf}
+use Rattle.one_pole.specs.Tangent.{tanOf}
 use Rattle.one_pole.specs.declared.OnePole.{OnePole}
 
 abbrev pub onePoleNew : OnePole

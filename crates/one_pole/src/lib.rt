@@ -1,11 +1,11 @@
-// Zero-delay-feedback one-pole filter.
+// Zero-delay-feedback one-pole filter, and the tangent that it shares with the state-variable filter.
 
 use filter_core::FilterMode;
 use filter_core::FrequencyApproximation;
 ghost use mathlib.Core.Path.{_≡_};
 ghost use Rattle.filter_core.specs.Refusal.{frequencyRefusal, unlessRefused};
 ghost use Rattle.filter_core.specs.Arithmetic.{zeroᶠ};
-ghost use Rattle.tangent.specs.Tangent.{tanOf};
+ghost use Rattle.one_pole.specs.Tangent.{clip, tanSeries, tangent, tanDirty, tanFast, tanAccurate, tanOf};
 ghost use Rattle.one_pole.specs.OnePole.{onePoleNew, onePoleInit, onePoleReset, onePoleSetG, onePoleSetF, onePoleNext, onePoleOut};
 
 pub struct OnePole {
@@ -33,6 +33,51 @@ pub struct Tangent {
 }
 
 impl OnePole {
+    pub const PI: f32 = 3.1415927;
+
+    pub const PI_POW_2: f32 = Self::PI * Self::PI;
+
+    pub const PI_POW_3: f32 = Self::PI_POW_2 * Self::PI;
+
+    pub const PI_POW_5: f32 = Self::PI_POW_3 * Self::PI_POW_2;
+
+    pub const PI_POW_7: f32 = Self::PI_POW_5 * Self::PI_POW_2;
+
+    pub const PI_POW_9: f32 = Self::PI_POW_7 * Self::PI_POW_2;
+
+    pub const PI_POW_11: f32 = Self::PI_POW_9 * Self::PI_POW_2;
+
+    // The coefficients of the three polynomials, by powers of f * f.
+    const DIRTY_A: f32 = 0.3736 * Self::PI_POW_3;
+
+    const FAST_A: f32 = 0.3260 * Self::PI_POW_3;
+
+    const FAST_B: f32 = 0.1823 * Self::PI_POW_5;
+
+    const ACCURATE_A: f32 = 0.3333314036 * Self::PI_POW_3;
+
+    const ACCURATE_B: f32 = 0.1333923995 * Self::PI_POW_5;
+
+    const ACCURATE_C: f32 = 0.0533740603 * Self::PI_POW_7;
+
+    const ACCURATE_D: f32 = 0.0029005250 * Self::PI_POW_9;
+
+    const ACCURATE_E: f32 = 0.0095168091 * Self::PI_POW_11;
+
+    // Exact clips here, which keeps its tangent at about 100.
+    pub const EXACT_CLIP: f32 = 0.497;
+
+    // Abramowitz and Stegun 4.3.101: tan x / x by powers of x * x.
+    const TANGENT_ROW: [f32; 7] = [
+        1.0,
+        0.3333314036,
+        0.1333923995,
+        0.0533740603,
+        0.0245650893,
+        0.0029005250,
+        0.0095168091,
+    ];
+
     pub fn new() -> Self
         ensures { λ r. ⌜ r ≡ onePoleNew ⌝ }
     {
@@ -61,6 +106,76 @@ impl OnePole {
         }
     }
 
+    // tan x by the series, for x up to a quarter turn.
+    fn tan_series(x: f32) -> f32
+        ensures { λ r. ⌜ r ≡ tanSeries x ⌝ }
+    {
+        let row = Self::TANGENT_ROW;
+        x * filter_core::series(x * x, &row)
+    }
+
+    // Above an eighth turn the tangent is one over that of the rest of the quarter.
+    fn tan_clipped(f: f32) -> f32
+        ensures { λ r. ⌜ r ≡ tangent f ⌝ }
+    {
+        if f <= 0.25 {
+            Self::tan_series(Self::PI * f)
+        } else {
+            1.0 / Self::tan_series(Self::PI * (0.5 - f))
+        }
+    }
+
+    fn tan_exact(f: f32) -> f32
+        ensures { λ r. ⌜ r ≡ tangent (clip f) ⌝ }
+    {
+        if f < Self::EXACT_CLIP {
+            Self::tan_clipped(f)
+        } else {
+            Self::tan_clipped(Self::EXACT_CLIP)
+        }
+    }
+
+    fn tan_dirty(f: f32) -> f32
+        ensures { λ r. ⌜ r ≡ tanDirty f ⌝ }
+    {
+        f * (Self::PI + Self::DIRTY_A * f * f)
+    }
+
+    fn tan_fast(f: f32) -> f32
+        ensures { λ r. ⌜ r ≡ tanFast f ⌝ }
+    {
+        let f2 = f * f;
+        f * (Self::PI + f2 * (Self::FAST_A + Self::FAST_B * f2))
+    }
+
+    // The series above without its fourth coefficient, as the source has it.
+    fn tan_accurate(f: f32) -> f32
+        ensures { λ r. ⌜ r ≡ tanAccurate f ⌝ }
+    {
+        let f2 = f * f;
+        f
+            * (Self::PI
+                + f2
+                    * (Self::ACCURATE_A
+                        + f2
+                            * (Self::ACCURATE_B
+                                + f2
+                                    * (Self::ACCURATE_C
+                                        + f2 * (Self::ACCURATE_D + f2 * Self::ACCURATE_E)))))
+    }
+
+    // The value alone, refused or not.
+    pub fn tan_value(f: f32, approximation: FrequencyApproximation) -> f32
+        ensures { λ r. ⌜ r ≡ tanOf f approximation ⌝ }
+    {
+        match approximation {
+            FrequencyApproximation::Exact => Self::tan_exact(f),
+            FrequencyApproximation::Accurate => Self::tan_accurate(f),
+            FrequencyApproximation::Fast => Self::tan_fast(f),
+            FrequencyApproximation::Dirty => Self::tan_dirty(f),
+        }
+    }
+
     pub fn tan(f: f32, approximation: FrequencyApproximation) -> Tangent
         ensures { λ r. ⌜ (r .number ≡ frequencyRefusal f approximation)
             × (r .value ≡ unlessRefused (frequencyRefusal f approximation) zeroᶠ (tanOf f approximation)) ⌝ }
@@ -74,7 +189,7 @@ impl OnePole {
         }
         Tangent {
             number: 0,
-            value: tangent::tan(f, approximation),
+            value: Self::tan_value(f, approximation),
         }
     }
 
@@ -102,7 +217,7 @@ impl OnePole {
         }
         OnePoleAnswer {
             number: 0,
-            filter: self.set_g(tangent::tan(f, approximation)),
+            filter: self.set_g(Self::tan_value(f, approximation)),
         }
     }
 

@@ -1,7 +1,6 @@
 // Which filter has which form of a run.
 
 ghost use mathlib.Core.Path.{_≡_};
-ghost use Rattle.filter_core.specs.Refusal.{stepRefusal};
 ghost use Rattle.any_filter.specs.Cases.{typeOf};
 ghost use Rattle.runs.specs.Form.{isSvf, isNaive, hasForm, hasFormTwo, formRefusal, refusalIf, runRefusal, runTwoRefusal};
 use crate::RunForm;
@@ -64,21 +63,15 @@ fn has_form_two(filter: FilterType, form: RunForm) -> bool
     }
 }
 
-fn step_refusal(step: usize) -> u8
-    ensures { λ r. ⌜ r ≡ stepRefusal step ⌝ }
-{
-    if step == 0 { 10 } else { 0 }
-}
-
 fn form_refusal(form: RunForm) -> u8
     ensures { λ r. ⌜ r ≡ formRefusal form ⌝ }
 {
     match form {
         RunForm::Plain(_) => 0,
         RunForm::Gain(_, _) => 0,
-        RunForm::Stride(_, step) => step_refusal(step),
+        RunForm::Stride(_, step) => filter_core::step_refusal(step),
         RunForm::Multimode(_) => 0,
-        RunForm::Decimate(_, step) => step_refusal(step),
+        RunForm::Decimate(_, step) => filter_core::step_refusal(step),
         RunForm::Gains(_, _, _) => 0,
         RunForm::Pair(_, _) => 0,
         RunForm::Split => 0,

@@ -9,7 +9,7 @@ use Rattle.filter_core.specs.Mode.{byMode}
 use Rattle.filter_core.specs.declared.FilterMode.{FilterMode}
 use Rattle.filter_core.specs.declared.FrequencyApproximation.{FrequencyApproximation}
 use Rattle.multimode.specs.Multimode.{highGain, bandGain, lowGain}
-use Rattle.tangent.specs.Tangent.{tanOf}
+use Rattle.one_pole.specs.Tangent.{tanOf}
 use Rattle.svf.specs.Svf.{svfSetGQ, svfSetFQ, svfHigh, svfBand, svfLow, svfNext, svfOut, svfMixed, svfMultimode}
 use Rattle.svf.specs.declared.Svf.{Svf}
 

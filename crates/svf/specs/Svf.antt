@@ -6,7 +6,7 @@ use Rattle.filter_core.specs.declared.FilterMode.{FilterMode}
 use Rattle.filter_core.specs.declared.FrequencyApproximation.{FrequencyApproximation}
 use Rattle.filter_core.specs.declared.FrequencyApproximation.the-variants.{Dirty}
 use Rattle.multimode.specs.Multimode.{highGain, bandGain, lowGain}
-use Rattle.tangent.specs.Tangent.{tanOf}
+use Rattle.one_pole.specs.Tangent.{tanOf}
 use Rattle.svf.specs.declared.Svf.{Svf}
 
 abbrev pub svfNew : Svf

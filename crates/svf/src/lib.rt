@@ -2,6 +2,7 @@
 
 use filter_core::FilterMode;
 use filter_core::FrequencyApproximation;
+use one_pole::OnePole;
 ghost use mathlib.Core.Path.{_≡_};
 ghost use Prim.Native.Nat.{_+_, _<_, min};
 ghost use Rattle.filter_core.specs.Buffer.{Filtered, within, each, puts, eachDue, putsDue};
@@ -125,7 +126,7 @@ impl Svf {
         }
         SvfAnswer {
             number: 0,
-            filter: self.set_g_q(tangent::tan(f, approximation), resonance),
+            filter: self.set_g_q(OnePole::tan_value(f, approximation), resonance),
         }
     }
 

@@ -1,0 +1,9 @@
+use Rattle.naive_svf.proofs.clip_at.Statement.{statement}
+use Rattle.naive_svf.proofs.clip_at.Tie as tie
+
+pub clip-at-spec : {M : Type 1} → statement M
+clip-at-spec =
+    tie.close
+    (tie.spec
+    (λ c. rw (c .if1 .taken))
+    (λ c. rw (c .if1 .left)))

@@ -1,9 +1,0 @@
-use Rattle.sine.proofs.clip_at.Statement.{statement}
-use Rattle.sine.proofs.clip_at.Tie as tie
-
-pub clip-at-spec : {M : Type 1} → statement M
-clip-at-spec =
-    tie.close
-    (tie.spec
-    (λ c. rw (c .if1 .taken))
-    (λ c. rw (c .if1 .left)))

@@ -1,2 +1,0 @@
-pub mod Constants
-pub mod Approximations
