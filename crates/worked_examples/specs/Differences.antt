@@ -9,7 +9,8 @@ use Rattle.filter_core.specs.Refusal.{stepRefusal, frequencyRefusal}
 use Rattle.filter_core.specs.declared.FilterMode.the-variants.{LowPass, BandPass}
 use Rattle.filter_core.specs.declared.FrequencyApproximation.the-variants.{Exact, Accurate, Fast, Dirty}
 use Rattle.one_pole.specs.Tangent.{tanOf}
-use Rattle.svf.specs.Svf.{svfNext, svfGained, highGain, bandGain, lowGain}
+use Rattle.multimode.specs.Multimode.{highGain, bandGain, lowGain}
+use Rattle.svf.specs.Svf.{svfNext, svfGained}
 use Rattle.naive_svf.specs.Sine.{naiveFrequency}
 use Rattle.naive_svf.specs.NaiveSvf.{naiveHigh}
 use Rattle.naive_svf.specs.declared.NaiveSvf.{NaiveSvf}

@@ -23,10 +23,12 @@ use Rattle.modified_svf.specs.declared.ModifiedSvf.{ModifiedSvf}
 use Rattle.crossover_svf.specs.CrossoverSvf.{crossoverNext, crossoverOut, zeros}
 use Rattle.crossover_svf.specs.declared.CrossoverSvf.{CrossoverSvf}
 use Rattle.sheets.specs.Sheet.{checkOf}
-use Rattle.library.specs.Library.{zeros as zeros-bytes, libraryOf, entryAt}
-use Rattle.library.specs.declared.entry.Entry.the-variants.{DcBlocker as DcEntry}
+use Rattle.library.specs.Library.{zeroBytes, libraryOf, entryAt}
+use Rattle.any_filter.specs.declared.Filter.the-variants.{Dc}
+use Rattle.loads.specs.Load.{filterOf}
 use Rattle.runs.specs.declared.RunForm.the-variants.{Plain}
-use Rattle.frame.specs.History.{Call, opening, at, load, run, mark, back, Reply, noHistories, repliesTo}
+use Rattle.frame.specs.Call.{Call, opening, at, load, run, mark, back, answered, marked, ran}
+use Rattle.frame.specs.History.{noHistories, repliesTo}
 
 -- ---- the numbers
 
@@ -69,7 +71,7 @@ crossover = record { f = halfᶠ; fq = halfᶠ; x = zeros; lp = zeros; bp = zero
 -- ---- the sheet of S10, and calls on a fresh frame
 
 abbrev pub sheet : List ℕ
-sheet = 0x01 ∷ 0x00 ∷ 0x01 ∷ 0x00 ∷ 0x00 ∷ 0x00 ∷ 0x3f ∷ zeros-bytes 8
+sheet = 0x01 ∷ 0x00 ∷ 0x01 ∷ 0x00 ∷ 0x00 ∷ 0x00 ∷ 0x3f ∷ zeroBytes 8
 
 abbrev pub runOne : Call
 runOne = at 0 (run (Plain LowPass) (oneᶠ ∷ []) (kept ∷ []))
@@ -79,15 +81,6 @@ threadBreak = opening sheet ∷ at 0 (load 0) ∷ runOne ∷ at 0 mark ∷ runOn
 
 abbrev pub lastHead : List Call
 lastHead = opening sheet ∷ at 11 (load 0) ∷ at 12 (load 0) ∷ at 11 mark ∷ at 11 mark ∷ at 11 mark ∷ at 11 mark ∷ at 11 mark ∷ []
-
-abbrev pub numbersOf : List Call → List ℕ
-numbersOf cs = map (λ (r : Reply). r .number) (repliesTo noHistories cs)
-
-abbrev pub answersOf : List Call → List ℕ
-answersOf cs = map (λ (r : Reply). r .answer) (repliesTo noHistories cs)
-
-abbrev pub outputsOf : List Call → List (List Float)
-outputsOf cs = map (λ (r : Reply). r .first) (repliesTo noHistories cs)
 
 -- ---- the table
 
@@ -128,14 +121,16 @@ pub record WorkedExamples : Type 0 where
   -- S10 of document 01: a sheet of one entry, a DC blocker with the pole 0.5
   pub sheet-accepted : checkOf sheet ≡ 0
   pub sheet-entries : libraryOf sheet .n ≡ 1
-  pub sheet-entry : entryAt (libraryOf sheet) 0 ≡ DcEntry halfᶠ
+  pub sheet-entry : entryAt (libraryOf sheet) 0 ≡ record { kind = 1; a = 0x3f00_0000; b = 0; c = 0 }
+  pub sheet-filter : filterOf (entryAt (libraryOf sheet) 0) ≡ Dc halfᶠ zeroᶠ zeroᶠ
   -- S11 of document 01: the run after the return answers what the run after the mark did
-  pub break-accepted : numbersOf threadBreak ≡ 0 ∷ 0 ∷ 0 ∷ 0 ∷ 0 ∷ 0 ∷ 0 ∷ []
-  pub break-mark : answersOf threadBreak ≡ 0 ∷ 0 ∷ 0 ∷ 0 ∷ 0 ∷ 0 ∷ 0 ∷ []
-  pub break-outputs : outputsOf threadBreak ≡ [] ∷ [] ∷ (oneᶠ ∷ []) ∷ [] ∷ (halfᶠ ∷ []) ∷ [] ∷ (halfᶠ ∷ []) ∷ []
+  pub break-replies :
+      repliesTo noHistories threadBreak
+      ≡ answered 0 ∷ answered 0 ∷ ran 0 (oneᶠ ∷ []) ∷ marked 0 0 ∷ ran 0 (halfᶠ ∷ []) ∷ answered 0 ∷ ran 0 (halfᶠ ∷ []) ∷ []
   -- S12 of document 01: head 12 is refused with 1, the fifth mark with 8; the four before it have the numbers 0 to 3
-  pub last-numbers : numbersOf lastHead ≡ 0 ∷ 0 ∷ 1 ∷ 0 ∷ 0 ∷ 0 ∷ 0 ∷ 8 ∷ []
-  pub last-marks : answersOf lastHead ≡ 0 ∷ 0 ∷ 0 ∷ 0 ∷ 1 ∷ 2 ∷ 3 ∷ 0 ∷ []
+  pub last-replies :
+      repliesTo noHistories lastHead
+      ≡ answered 0 ∷ answered 0 ∷ answered 1 ∷ marked 0 0 ∷ marked 0 1 ∷ marked 0 2 ∷ marked 0 3 ∷ marked 8 0 ∷ []
   -- and Exact at a NaN
   pub tangent-at-nan : tanOf nan Exact ≡ tanOf clipᶠ Exact
   pub sine-at-nan : naiveFrequency nan Exact ≡ naiveFrequency clipᶠ Exact

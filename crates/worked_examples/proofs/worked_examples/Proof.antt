@@ -4,17 +4,18 @@ use Rattle.svf.specs.Svf.{svfNext, svfOut, svfMixed}
 use Rattle.naive_svf.specs.NaiveSvf.{naiveLow, naiveHigh, naiveNext, naiveOut}
 use Rattle.modified_svf.specs.ModifiedSvf.{modifiedNext, modifiedOut}
 use Rattle.crossover_svf.specs.CrossoverSvf.{crossoverNext, crossoverOut}
-use Rattle.sheets.specs.Refusal.{firstRefusal}
-use Rattle.library.specs.Library.{over, zeros}
+use Rattle.sheets.specs.Refusal.{firstRefusal, entryRefusal}
+use Rattle.words.specs.Over.{over}
+use Rattle.library.specs.Library.{zeroBytes}
 use Rattle.runs.specs.Run.{through, firstOutput}
-use Rattle.loads.specs.Load.{filterOf}
-use Rattle.frame.specs.History.{repliesTo, replyTo, advance, callNumber, kindFrom, slotFrom}
+use Rattle.loads.specs.Load.{filterFor}
+use Rattle.frame.specs.History.{repliesTo, replyTo, advance, callNumber, typeFrom, snapshotFrom}
 use Rattle.worked_examples.specs.Examples.{WorkedExamples}
 use Rattle.worked_examples.proofs.worked_examples.Statement.{statement}
 use Rattle.worked_examples.proofs.worked_examples.Tie as tie
 
 computed : WorkedExamples
-unfolding ofBits add sub mul neg lt isNan firstRefusal over zeros filterOf through firstOutput repliesTo replyTo advance callNumber kindFrom slotFrom svfNext svfOut svfMixed naiveLow naiveHigh naiveNext naiveOut modifiedNext modifiedOut crossoverNext crossoverOut
+unfolding ofBits add sub mul neg lt isNan firstRefusal entryRefusal over zeroBytes filterFor through firstOutput repliesTo replyTo advance callNumber typeFrom snapshotFrom svfNext svfOut svfMixed naiveLow naiveHigh naiveNext naiveOut modifiedNext modifiedOut crossoverNext crossoverOut
 computed =
     record {
       dc-blocker = refl;
@@ -31,11 +32,9 @@ computed =
       sheet-accepted = refl;
       sheet-entries = refl;
       sheet-entry = refl;
-      break-accepted = refl;
-      break-mark = refl;
-      break-outputs = refl;
-      last-numbers = refl;
-      last-marks = refl;
+      sheet-filter = refl;
+      break-replies = refl;
+      last-replies = refl;
       tangent-at-nan = refl;
       sine-at-nan = refl;
     }
