@@ -1,11 +1,20 @@
-// A line is read, its call made, and its answer put into the output.
+// A line is read, its call made, and its answer put into the output. An answer begins with the line's keyword.
 
 use call_text::Call;
+use call_text::keyword::BACK;
+use call_text::keyword::CHECK;
+use call_text::keyword::LOAD;
+use call_text::keyword::MARK;
+use call_text::keyword::OPEN;
+use call_text::keyword::REST;
+use form_text::Part;
+use form_text::text;
+use frame::Answer;
 use frame::Frame;
 use runs::RunForm;
 
-// The frame after the call, and the place behind the answer.
-pub(crate) struct Turn {
+// The frame after the line, and the place behind the answer.
+pub(crate) struct Answered {
     pub(crate) frame: Frame,
     pub(crate) at: usize,
 }
@@ -15,47 +24,148 @@ fn wide(b: u8) -> usize {
 }
 
 fn number(n: usize, out: &mut [u8], at: usize) -> usize {
-    let mut text = [0u8; 20];
-    let k = io::decimal(n as u64, &mut text);
-    digits::put(&text[..k], out, at)
+    let mut digits = [0u8; 20];
+    let k = io::decimal(n as u64, &mut digits);
+    digits::put(&digits[..k], out, at)
 }
 
-// A word, a space and the refusal's number.
-fn numbered(word: &[u8], refusal: u8, out: &mut [u8], at: usize) -> usize {
-    let a = digits::put(word, out, at);
+fn keyword(line: &[u8]) -> &[u8] {
+    let end = bytes::scan::find(line, 0, line.len(), b' ');
+    &line[0..end]
+}
+
+// The keyword, a space and the refusal's number.
+fn numbered(line: &[u8], refusal: u8, out: &mut [u8], at: usize) -> usize {
+    let a = digits::put(keyword(line), out, at);
     let b = digits::put(b" ", out, a);
     number(wide(refusal), out, b)
 }
 
-fn answered(word: &[u8], refusal: u8, out: &mut [u8], at: usize) -> usize {
-    let a = numbered(word, refusal, out, at);
-    digits::put(b"\n", out, a)
+// A space and n, unless the call was refused.
+fn counted(refusal: u8, n: usize, out: &mut [u8], at: usize) -> usize {
+    if refusal != 0 {
+        return at;
+    }
+    let a = digits::put(b" ", out, at);
+    number(n, out, a)
 }
 
-// A space and the buffer, whole.
+// A space and the samples.
 fn spaced(samples: &[f32], out: &mut [u8], at: usize) -> usize {
-    let to = digits::put(b" ", out, at);
-    digits::put_samples(samples, out, to)
+    let a = digits::put(b" ", out, at);
+    digits::put_samples(samples, out, a)
 }
 
-fn open(frame: Frame, sheet: &[u8], bytes: &mut [u8], out: &mut [u8], at: usize) -> Turn {
-    let n = digits::bytes(sheet, bytes);
-    let answer = frame.open(&bytes[..n]);
+fn ended(out: &mut [u8], at: usize) -> usize {
+    digits::put(b"\n", out, at)
+}
+
+// The answer of a call that hands back nothing but its number.
+fn plain(answer: Answer, line: &[u8], out: &mut [u8], at: usize) -> Answered {
+    let frame = answer.frame;
+    let a = numbered(line, answer.number, out, at);
+    let b = ended(out, a);
+    Answered { frame, at: b }
+}
+
+fn mark(frame: Frame, head: usize, line: &[u8], out: &mut [u8], at: usize) -> Answered {
+    let answer = frame.mark(head);
     let next = answer.frame;
-    let to = answered(b"open", answer.number, out, at);
-    Turn {
-        frame: next,
-        at: to,
+    let a = numbered(line, answer.number, out, at);
+    let b = counted(answer.number, answer.mark, out, a);
+    let c = ended(out, b);
+    Answered { frame: next, at: c }
+}
+
+fn head(frame: Frame, head: usize, line: &[u8], out: &mut [u8], at: usize) -> Answered {
+    let answer = frame.show(head);
+    let next = answer.frame;
+    let shown = answer.head;
+    let a = numbered(line, answer.number, out, at);
+    if answer.number != 0 {
+        let b = ended(out, a);
+        return Answered { frame: next, at: b };
+    }
+    let b = crate::shown::head(shown, out, a);
+    let c = ended(out, b);
+    Answered { frame: next, at: c }
+}
+
+fn of_head(
+    keyword: usize,
+    frame: Frame,
+    h: usize,
+    line: &[u8],
+    out: &mut [u8],
+    at: usize,
+) -> Answered {
+    match keyword {
+        REST => plain(frame.rest(h), line, out, at),
+        MARK => mark(frame, h, line, out, at),
+        _ => head(frame, h, line, out, at),
     }
 }
 
-fn load(frame: Frame, head: usize, entry: usize, out: &mut [u8], at: usize) -> Turn {
-    let answer = frame.load(head, entry);
+fn of_head_number(keyword: usize, frame: Frame, head: usize, n: usize) -> Answer {
+    match keyword {
+        LOAD => frame.load(head, n),
+        BACK => frame.back(head, n),
+        _ => frame.drop(head, n),
+    }
+}
+
+fn write(frame: Frame, bytes: &mut [u8], line: &[u8], out: &mut [u8], at: usize) -> Answered {
+    let answer = frame.write(bytes);
     let next = answer.frame;
-    let to = answered(b"load", answer.number, out, at);
-    Turn {
-        frame: next,
-        at: to,
+    let a = numbered(line, answer.number, out, at);
+    let b = counted(answer.number, answer.length, out, a);
+    let c = digits::put(b" ", out, b);
+    let d = digits::put_bytes(bytes, out, c);
+    let e = ended(out, d);
+    Answered { frame: next, at: e }
+}
+
+fn of_bytes(
+    keyword: usize,
+    frame: Frame,
+    part: Part,
+    line: &[u8],
+    out: &mut [u8],
+    at: usize,
+) -> Answered {
+    let mut bytes = [0u8; 4096];
+    let n = digits::bytes(text(line, part), &mut bytes);
+    match keyword {
+        OPEN => plain(frame.open(&bytes[..n]), line, out, at),
+        _ => write(frame, &mut bytes[..n], line, out, at),
+    }
+}
+
+fn check(sheet: &[u8], entry: usize, line: &[u8], out: &mut [u8], at: usize) -> usize {
+    let a = numbered(line, sheets::check_entry(sheet, entry), out, at);
+    ended(out, a)
+}
+
+fn lookup(sheet: &[u8], entry: usize, line: &[u8], out: &mut [u8], at: usize) -> usize {
+    let a = digits::put(keyword(line), out, at);
+    let b = digits::put(b" ", out, a);
+    let c = digits::put_bytes(sheets::lookup(sheet, entry), out, b);
+    ended(out, c)
+}
+
+fn of_bytes_number(
+    keyword: usize,
+    part: Part,
+    entry: usize,
+    line: &[u8],
+    out: &mut [u8],
+    at: usize,
+) -> usize {
+    let mut bytes = [0u8; 4096];
+    let n = digits::bytes(text(line, part), &mut bytes);
+    match keyword {
+        CHECK => check(&bytes[..n], entry, line, out, at),
+        _ => lookup(&bytes[..n], entry, line, out, at),
     }
 }
 
@@ -64,32 +174,43 @@ fn run(
     head: usize,
     form: RunForm,
     input: &[f32],
-    first: &mut [f32],
+    output: &mut [f32],
+    line: &[u8],
     out: &mut [u8],
     at: usize,
-) -> Turn {
-    let answer = frame.run(head, form, input, first);
+) -> Answered {
+    let answer = frame.run(head, form, input, output);
     let next = answer.frame;
-    let a = numbered(b"run", answer.number, out, at);
-    let b = spaced(first, out, a);
-    let c = digits::put(b"\n", out, b);
-    Turn { frame: next, at: c }
+    let a = numbered(line, answer.number, out, at);
+    let b = spaced(output, out, a);
+    let c = ended(out, b);
+    Answered { frame: next, at: c }
 }
 
-fn run_line(
+fn of_run(
     frame: Frame,
     head: usize,
     form: RunForm,
-    in_text: &[u8],
-    out_text: &[u8],
-    input: &mut [f32],
-    first: &mut [f32],
+    i: Part,
+    o: Part,
+    line: &[u8],
     out: &mut [u8],
     at: usize,
-) -> Turn {
-    let n = digits::samples(in_text, input);
-    let m = digits::samples(out_text, first);
-    run(frame, head, form, &input[..n], &mut first[..m], out, at)
+) -> Answered {
+    let mut input = [0.0f32; 1024];
+    let mut output = [0.0f32; 1024];
+    let n = digits::samples(text(line, i), &mut input);
+    let m = digits::samples(text(line, o), &mut output);
+    run(
+        frame,
+        head,
+        form,
+        &input[..n],
+        &mut output[..m],
+        line,
+        out,
+        at,
+    )
 }
 
 fn two(
@@ -99,34 +220,36 @@ fn two(
     input: &[f32],
     first: &mut [f32],
     second: &mut [f32],
+    line: &[u8],
     out: &mut [u8],
     at: usize,
-) -> Turn {
+) -> Answered {
     let answer = frame.run_two(head, form, input, first, second);
     let next = answer.frame;
-    let a = numbered(b"two", answer.number, out, at);
+    let a = numbered(line, answer.number, out, at);
     let b = spaced(first, out, a);
     let c = spaced(second, out, b);
-    let d = digits::put(b"\n", out, c);
-    Turn { frame: next, at: d }
+    let d = ended(out, c);
+    Answered { frame: next, at: d }
 }
 
-fn two_line(
+fn of_two(
     frame: Frame,
     head: usize,
     form: RunForm,
-    in_text: &[u8],
-    first_text: &[u8],
-    second_text: &[u8],
-    input: &mut [f32],
-    first: &mut [f32],
-    second: &mut [f32],
+    i: Part,
+    o: Part,
+    p: Part,
+    line: &[u8],
     out: &mut [u8],
     at: usize,
-) -> Turn {
-    let n = digits::samples(in_text, input);
-    let m = digits::samples(first_text, first);
-    let k = digits::samples(second_text, second);
+) -> Answered {
+    let mut input = [0.0f32; 1024];
+    let mut first = [0.0f32; 1024];
+    let mut second = [0.0f32; 1024];
+    let n = digits::samples(text(line, i), &mut input);
+    let m = digits::samples(text(line, o), &mut first);
+    let k = digits::samples(text(line, p), &mut second);
     two(
         frame,
         head,
@@ -134,172 +257,33 @@ fn two_line(
         &input[..n],
         &mut first[..m],
         &mut second[..k],
+        line,
         out,
         at,
     )
 }
 
-fn rest(frame: Frame, head: usize, out: &mut [u8], at: usize) -> Turn {
-    let answer = frame.rest(head);
-    let next = answer.frame;
-    let to = answered(b"rest", answer.number, out, at);
-    Turn {
-        frame: next,
-        at: to,
-    }
-}
-
-fn mark(frame: Frame, head: usize, out: &mut [u8], at: usize) -> Turn {
-    let answer = frame.mark(head);
-    let next = answer.frame;
-    if answer.number != 0 {
-        let to = answered(b"mark", answer.number, out, at);
-        return Turn {
-            frame: next,
-            at: to,
-        };
-    }
-    let a = digits::put(b"mark 0 ", out, at);
-    let b = number(answer.mark, out, a);
-    let c = digits::put(b"\n", out, b);
-    Turn { frame: next, at: c }
-}
-
-fn back(frame: Frame, head: usize, m: usize, out: &mut [u8], at: usize) -> Turn {
-    let answer = frame.back(head, m);
-    let next = answer.frame;
-    let to = answered(b"back", answer.number, out, at);
-    Turn {
-        frame: next,
-        at: to,
-    }
-}
-
-fn drop_mark(frame: Frame, head: usize, m: usize, out: &mut [u8], at: usize) -> Turn {
-    let answer = frame.drop(head, m);
-    let next = answer.frame;
-    let to = answered(b"drop", answer.number, out, at);
-    Turn {
-        frame: next,
-        at: to,
-    }
-}
-
-fn write(frame: Frame, bytes: &mut [u8], out: &mut [u8], at: usize) -> Turn {
-    let answer = frame.write(bytes);
-    let next = answer.frame;
-    let a = numbered(b"write", answer.number, out, at);
-    let b = digits::put(b" ", out, a);
-    let c = written_length(answer.number, answer.length, out, b);
-    let d = digits::put_bytes(bytes, out, c);
-    let e = digits::put(b"\n", out, d);
-    Turn { frame: next, at: e }
-}
-
-fn write_line(frame: Frame, lent: &[u8], bytes: &mut [u8], out: &mut [u8], at: usize) -> Turn {
-    let n = digits::bytes(lent, bytes);
-    write(frame, &mut bytes[..n], out, at)
-}
-
-// A refused write has no length.
-fn written_length(refusal: u8, length: usize, out: &mut [u8], at: usize) -> usize {
-    if refusal != 0 {
-        return at;
-    }
-    let a = number(length, out, at);
-    digits::put(b" ", out, a)
-}
-
-fn check(sheet: &[u8], entry: usize, bytes: &mut [u8], out: &mut [u8], at: usize) -> usize {
-    let n = digits::bytes(sheet, bytes);
-    answered(b"check", sheets::check_entry(&bytes[..n], entry), out, at)
-}
-
-fn lookup(sheet: &[u8], entry: usize, bytes: &mut [u8], out: &mut [u8], at: usize) -> usize {
-    let n = digits::bytes(sheet, bytes);
-    let a = digits::put(b"lookup ", out, at);
-    let b = digits::put_bytes(sheets::lookup(&bytes[..n], entry), out, a);
-    digits::put(b"\n", out, b)
-}
-
-fn head(frame: Frame, head: usize, out: &mut [u8], at: usize) -> Turn {
-    let answer = frame.show(head);
-    let next = answer.frame;
-    let shown = answer.head;
-    if answer.number != 0 {
-        let to = answered(b"head", answer.number, out, at);
-        return Turn {
-            frame: next,
-            at: to,
-        };
-    }
-    let a = digits::put(b"head 0", out, at);
-    let b = crate::shown::head(shown, out, a);
-    let c = digits::put(b"\n", out, b);
-    Turn { frame: next, at: c }
-}
-
-fn said(frame: Frame, answer: &[u8], out: &mut [u8], at: usize) -> Turn {
+fn said(frame: Frame, answer: &[u8], out: &mut [u8], at: usize) -> Answered {
     let to = digits::put(answer, out, at);
-    Turn { frame, at: to }
+    Answered { frame, at: to }
 }
 
-pub(crate) fn answer(
-    frame: Frame,
-    line: &[u8],
-    input: &mut [f32],
-    first: &mut [f32],
-    second: &mut [f32],
-    bytes: &mut [u8],
-    out: &mut [u8],
-    at: usize,
-) -> Turn {
+pub(crate) fn answer(frame: Frame, line: &[u8], out: &mut [u8], at: usize) -> Answered {
     if 65535 < line.len() {
         return said(frame, b"? long line\n", out, at);
     }
     let call = call_text::call_of(line);
     match call {
-        Call::Silent => Turn { frame, at },
+        Call::Silent => Answered { frame, at },
         Call::BadLine => said(frame, b"? bad line\n", out, at),
-        Call::Open(sheet) => open(frame, form_text::text(line, sheet), bytes, out, at),
-        Call::Load(h, e) => load(frame, h, e, out, at),
-        Call::Run(h, form, i, o) => run_line(
-            frame,
-            h,
-            form,
-            form_text::text(line, i),
-            form_text::text(line, o),
-            input,
-            first,
-            out,
-            at,
-        ),
-        Call::Two(h, form, i, o, p) => two_line(
-            frame,
-            h,
-            form,
-            form_text::text(line, i),
-            form_text::text(line, o),
-            form_text::text(line, p),
-            input,
-            first,
-            second,
-            out,
-            at,
-        ),
-        Call::Rest(h) => rest(frame, h, out, at),
-        Call::Mark(h) => mark(frame, h, out, at),
-        Call::Back(h, m) => back(frame, h, m, out, at),
-        Call::Drop(h, m) => drop_mark(frame, h, m, out, at),
-        Call::Write(lent) => write_line(frame, form_text::text(line, lent), bytes, out, at),
-        Call::Check(sheet, e) => {
-            let to = check(form_text::text(line, sheet), e, bytes, out, at);
-            Turn { frame, at: to }
+        Call::OfHead(k, h) => of_head(k, frame, h, line, out, at),
+        Call::OfHeadNumber(k, h, n) => plain(of_head_number(k, frame, h, n), line, out, at),
+        Call::OfBytes(k, b) => of_bytes(k, frame, b, line, out, at),
+        Call::OfBytesNumber(k, b, n) => {
+            let to = of_bytes_number(k, b, n, line, out, at);
+            Answered { frame, at: to }
         }
-        Call::Lookup(sheet, e) => {
-            let to = lookup(form_text::text(line, sheet), e, bytes, out, at);
-            Turn { frame, at: to }
-        }
-        Call::Head(h) => head(frame, h, out, at),
+        Call::OfRun(h, form, i, o) => of_run(frame, h, form, i, o, line, out, at),
+        Call::OfTwo(h, form, i, o, p) => of_two(frame, h, form, i, o, p, line, out, at),
     }
 }

@@ -72,15 +72,7 @@ fn send_if_enough(out: &[u8], at: usize) -> Sent {
 }
 
 // Answers every whole line of the text.
-fn answer_lines(
-    frame: Frame,
-    text: &[u8],
-    input: &mut [f32],
-    first: &mut [f32],
-    second: &mut [f32],
-    bytes: &mut [u8],
-    out: &mut [u8],
-) -> Lines
+fn answer_lines(frame: Frame, text: &[u8], out: &mut [u8]) -> Lines
     ensures { λ r. ⌜ r .used ≤ length (now (text .entry)) ⌝ }
 {
     let mut now = frame;
@@ -93,10 +85,10 @@ fn answer_lines(
             break;
         }
         let after = end + 1;
-        let turn = answers::answer(now, &text[from..end], input, first, second, bytes, out, at);
-        let next = turn.frame;
+        let answered = answers::answer(now, &text[from..end], out, at);
+        let next = answered.frame;
         now = next;
-        let sent = send_if_enough(out, turn.at);
+        let sent = send_if_enough(out, answered.at);
         at = sent.at;
         going = going & sent.going;
         from = after;
@@ -133,19 +125,10 @@ fn lines_begin(text: &[u8], skipping: bool) -> Start
 }
 
 // Answers every whole line of what was read, past the rest of a long line.
-fn take_lines(
-    frame: Frame,
-    skipping: bool,
-    text: &[u8],
-    input: &mut [f32],
-    first: &mut [f32],
-    second: &mut [f32],
-    bytes: &mut [u8],
-    out: &mut [u8],
-) -> Taken {
+fn take_lines(frame: Frame, skipping: bool, text: &[u8], out: &mut [u8]) -> Taken {
     let begin = lines_begin(text, skipping);
     let from = begin.from;
-    let r = answer_lines(frame, &text[from..], input, first, second, bytes, out);
+    let r = answer_lines(frame, &text[from..], out);
     let next = r.frame;
     Taken {
         frame: next,
@@ -182,20 +165,12 @@ fn keep(buffer: &mut [u8], from: usize, end: usize) -> usize {
 }
 
 // The input has ended. The last line may lack its line feed.
-fn last(
-    state: State,
-    buffer: &[u8],
-    input: &mut [f32],
-    first: &mut [f32],
-    second: &mut [f32],
-    bytes: &mut [u8],
-    out: &mut [u8],
-) -> State {
+fn last(state: State, buffer: &[u8], out: &mut [u8]) -> State {
     let frame = state.frame;
     let n = within(state.held, buffer);
-    let turn = answers::answer(frame, &buffer[..n], input, first, second, bytes, out, 0);
-    let next = turn.frame;
-    send(out, turn.at);
+    let answered = answers::answer(frame, &buffer[..n], out, 0);
+    let next = answered.frame;
+    send(out, answered.at);
     State {
         frame: next,
         held: 0,
@@ -205,31 +180,14 @@ fn last(
 }
 
 // Reads once, answers the lines that are whole, and holds the rest.
-fn step(
-    state: State,
-    buffer: &mut [u8],
-    input: &mut [f32],
-    first: &mut [f32],
-    second: &mut [f32],
-    bytes: &mut [u8],
-    out: &mut [u8],
-) -> State {
+fn step(state: State, buffer: &mut [u8], out: &mut [u8]) -> State {
     let filled = fill(buffer, state.held);
     if filled == state.held {
-        return last(state, buffer, input, first, second, bytes, out);
+        return last(state, buffer, out);
     }
     let end = within(filled, buffer);
     let frame = state.frame;
-    let taken = take_lines(
-        frame,
-        state.skipping,
-        &buffer[..end],
-        input,
-        first,
-        second,
-        bytes,
-        out,
-    );
+    let taken = take_lines(frame, state.skipping, &buffer[..end], out);
     let next = taken.frame;
     let kept = keep(buffer, taken.used, end);
     if LONGEST < kept {
@@ -249,14 +207,7 @@ fn step(
 }
 
 // A proved loop has to end, and nothing says that the input does. So the loop counts its turns down, from a number that no run uses up.
-fn serve(
-    buffer: &mut [u8],
-    input: &mut [f32],
-    first: &mut [f32],
-    second: &mut [f32],
-    bytes: &mut [u8],
-    out: &mut [u8],
-) {
+fn serve(buffer: &mut [u8], out: &mut [u8]) {
     let mut state = State {
         frame: Frame::fresh(),
         held: 0,
@@ -265,24 +216,13 @@ fn serve(
     };
     let mut turns = u64::MAX;
     while turns > 0 && state.going {
-        state = step(state, buffer, input, first, second, bytes, out);
+        state = step(state, buffer, out);
         turns -= 1;
     }
 }
 
 fn main() {
     let mut buffer = [0u8; 131072];
-    let mut input = [0.0f32; 1024];
-    let mut first = [0.0f32; 1024];
-    let mut second = [0.0f32; 1024];
-    let mut bytes = [0u8; 4096];
     let mut out = [0u8; 98304];
-    serve(
-        &mut buffer,
-        &mut input,
-        &mut first,
-        &mut second,
-        &mut bytes,
-        &mut out,
-    );
+    serve(&mut buffer, &mut out);
 }
