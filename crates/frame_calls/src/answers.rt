@@ -1,5 +1,12 @@
-// A line is read, its call made, and its answer put into the output. An answer begins with the line's keyword.
+// A line is read, its call made, and its answer put into the output.
 
+use crate::text::put_head;
+use crate::text::put_mark;
+use crate::text::put_number;
+use crate::text::put_part;
+use crate::text::put_run;
+use crate::text::put_two;
+use crate::text::put_written;
 use call_text::Call;
 use call_text::keyword::BACK;
 use call_text::keyword::CHECK;
@@ -19,76 +26,30 @@ pub(crate) struct Answered {
     pub(crate) at: usize,
 }
 
-fn wide(b: u8) -> usize {
-    b as usize
-}
-
-fn number(n: usize, out: &mut [u8], at: usize) -> usize {
-    let mut digits = [0u8; 20];
-    let k = io::decimal(n as u64, &mut digits);
-    digits::put(&digits[..k], out, at)
-}
-
-fn keyword(line: &[u8]) -> &[u8] {
-    let end = bytes::scan::find(line, 0, line.len(), b' ');
-    &line[0..end]
-}
-
-// The keyword, a space and the refusal's number.
-fn numbered(line: &[u8], refusal: u8, out: &mut [u8], at: usize) -> usize {
-    let a = digits::put(keyword(line), out, at);
-    let b = digits::put(b" ", out, a);
-    number(wide(refusal), out, b)
-}
-
-// A space and n, unless the call was refused.
-fn counted(refusal: u8, n: usize, out: &mut [u8], at: usize) -> usize {
-    if refusal != 0 {
-        return at;
-    }
-    let a = digits::put(b" ", out, at);
-    number(n, out, a)
-}
-
-// A space and the samples.
-fn spaced(samples: &[f32], out: &mut [u8], at: usize) -> usize {
-    let a = digits::put(b" ", out, at);
-    digits::put_samples(samples, out, a)
-}
-
-fn ended(out: &mut [u8], at: usize) -> usize {
-    digits::put(b"\n", out, at)
-}
-
-// The answer of a call that hands back nothing but its number.
 fn plain(answer: Answer, line: &[u8], out: &mut [u8], at: usize) -> Answered {
     let frame = answer.frame;
-    let a = numbered(line, answer.number, out, at);
-    let b = ended(out, a);
-    Answered { frame, at: b }
+    let to = put_number(line, answer.number, out, at);
+    Answered { frame, at: to }
 }
 
 fn mark(frame: Frame, head: usize, line: &[u8], out: &mut [u8], at: usize) -> Answered {
     let answer = frame.mark(head);
     let next = answer.frame;
-    let a = numbered(line, answer.number, out, at);
-    let b = counted(answer.number, answer.mark, out, a);
-    let c = ended(out, b);
-    Answered { frame: next, at: c }
+    let to = put_mark(line, answer.number, answer.mark, out, at);
+    Answered {
+        frame: next,
+        at: to,
+    }
 }
 
 fn head(frame: Frame, head: usize, line: &[u8], out: &mut [u8], at: usize) -> Answered {
     let answer = frame.show(head);
     let next = answer.frame;
-    let shown = answer.head;
-    let a = numbered(line, answer.number, out, at);
-    if answer.number != 0 {
-        let b = ended(out, a);
-        return Answered { frame: next, at: b };
+    let to = put_head(line, answer.number, answer.head, out, at);
+    Answered {
+        frame: next,
+        at: to,
     }
-    let b = crate::shown::head(shown, out, a);
-    let c = ended(out, b);
-    Answered { frame: next, at: c }
 }
 
 fn of_head(
@@ -117,12 +78,25 @@ fn of_head_number(keyword: usize, frame: Frame, head: usize, n: usize) -> Answer
 fn write(frame: Frame, bytes: &mut [u8], line: &[u8], out: &mut [u8], at: usize) -> Answered {
     let answer = frame.write(bytes);
     let next = answer.frame;
-    let a = numbered(line, answer.number, out, at);
-    let b = counted(answer.number, answer.length, out, a);
-    let c = digits::put(b" ", out, b);
-    let d = digits::put_bytes(bytes, out, c);
-    let e = ended(out, d);
-    Answered { frame: next, at: e }
+    let to = put_written(line, answer.number, answer.length, bytes, out, at);
+    Answered {
+        frame: next,
+        at: to,
+    }
+}
+
+fn with_bytes(
+    keyword: usize,
+    frame: Frame,
+    bytes: &mut [u8],
+    line: &[u8],
+    out: &mut [u8],
+    at: usize,
+) -> Answered {
+    match keyword {
+        OPEN => plain(frame.open(bytes), line, out, at),
+        _ => write(frame, bytes, line, out, at),
+    }
 }
 
 fn of_bytes(
@@ -135,22 +109,7 @@ fn of_bytes(
 ) -> Answered {
     let mut bytes = [0u8; 4096];
     let n = digits::bytes(text(line, part), &mut bytes);
-    match keyword {
-        OPEN => plain(frame.open(&bytes[..n]), line, out, at),
-        _ => write(frame, &mut bytes[..n], line, out, at),
-    }
-}
-
-fn check(sheet: &[u8], entry: usize, line: &[u8], out: &mut [u8], at: usize) -> usize {
-    let a = numbered(line, sheets::check_entry(sheet, entry), out, at);
-    ended(out, a)
-}
-
-fn lookup(sheet: &[u8], entry: usize, line: &[u8], out: &mut [u8], at: usize) -> usize {
-    let a = digits::put(keyword(line), out, at);
-    let b = digits::put(b" ", out, a);
-    let c = digits::put_bytes(sheets::lookup(sheet, entry), out, b);
-    ended(out, c)
+    with_bytes(keyword, frame, &mut bytes[..n], line, out, at)
 }
 
 fn of_bytes_number(
@@ -163,9 +122,10 @@ fn of_bytes_number(
 ) -> usize {
     let mut bytes = [0u8; 4096];
     let n = digits::bytes(text(line, part), &mut bytes);
+    let sheet = &bytes[..n];
     match keyword {
-        CHECK => check(&bytes[..n], entry, line, out, at),
-        _ => lookup(&bytes[..n], entry, line, out, at),
+        CHECK => put_number(line, sheets::check_entry(sheet, entry), out, at),
+        _ => put_part(line, sheets::lookup(sheet, entry), out, at),
     }
 }
 
@@ -181,10 +141,11 @@ fn run(
 ) -> Answered {
     let answer = frame.run(head, form, input, output);
     let next = answer.frame;
-    let a = numbered(line, answer.number, out, at);
-    let b = spaced(output, out, a);
-    let c = ended(out, b);
-    Answered { frame: next, at: c }
+    let to = put_run(line, answer.number, output, out, at);
+    Answered {
+        frame: next,
+        at: to,
+    }
 }
 
 fn of_run(
@@ -226,11 +187,11 @@ fn two(
 ) -> Answered {
     let answer = frame.run_two(head, form, input, first, second);
     let next = answer.frame;
-    let a = numbered(line, answer.number, out, at);
-    let b = spaced(first, out, a);
-    let c = spaced(second, out, b);
-    let d = ended(out, c);
-    Answered { frame: next, at: d }
+    let to = put_two(line, answer.number, first, second, out, at);
+    Answered {
+        frame: next,
+        at: to,
+    }
 }
 
 fn of_two(
@@ -268,13 +229,21 @@ fn said(frame: Frame, answer: &[u8], out: &mut [u8], at: usize) -> Answered {
     Answered { frame, at: to }
 }
 
+// The lines with samples. A silent line gets no answer.
+fn of_samples(call: Call, frame: Frame, line: &[u8], out: &mut [u8], at: usize) -> Answered {
+    match call {
+        Call::OfRun(h, form, i, o) => of_run(frame, h, form, i, o, line, out, at),
+        Call::OfTwo(h, form, i, o, p) => of_two(frame, h, form, i, o, p, line, out, at),
+        _ => Answered { frame, at },
+    }
+}
+
 pub(crate) fn answer(frame: Frame, line: &[u8], out: &mut [u8], at: usize) -> Answered {
     if 65535 < line.len() {
         return said(frame, b"? long line\n", out, at);
     }
     let call = call_text::call_of(line);
     match call {
-        Call::Silent => Answered { frame, at },
         Call::BadLine => said(frame, b"? bad line\n", out, at),
         Call::OfHead(k, h) => of_head(k, frame, h, line, out, at),
         Call::OfHeadNumber(k, h, n) => plain(of_head_number(k, frame, h, n), line, out, at),
@@ -283,7 +252,6 @@ pub(crate) fn answer(frame: Frame, line: &[u8], out: &mut [u8], at: usize) -> An
             let to = of_bytes_number(k, b, n, line, out, at);
             Answered { frame, at: to }
         }
-        Call::OfRun(h, form, i, o) => of_run(frame, h, form, i, o, line, out, at),
-        Call::OfTwo(h, form, i, o, p) => of_two(frame, h, form, i, o, p, line, out, at),
+        _ => of_samples(call, frame, line, out, at),
     }
 }

@@ -2,9 +2,8 @@
 // The memory is fixed, whatever the length of the input.
 mod answers;
 mod shown;
+mod text;
 
-ghost use Prim.Native.Nat.{_≤_};
-ghost use lib.ListN.{length};
 ghost use Rattle.digits.specs.Place.{Counts};
 use frame::Frame;
 use libc::STDIN_FILENO;
@@ -15,13 +14,6 @@ const LONGEST: usize = 65535;
 
 // Answers are written once they take so many bytes. The output has room for one more, the longest of which takes less than 32,768.
 const ENOUGH: usize = 65536;
-
-// How far the lines of a text were answered, and whether the output still takes answers.
-struct Lines {
-    frame: Frame,
-    used: usize,
-    going: bool,
-}
 
 // What goes from one read to the next: the frame, how many bytes of an unfinished line stand at the start of the buffer, and whether the
 // rest of a long line is still to be passed over.
@@ -37,6 +29,7 @@ struct Start {
     skipping: bool,
 }
 
+// How far the lines of a text were answered, and whether the output still takes answers.
 struct Taken {
     frame: Frame,
     used: usize,
@@ -71,47 +64,15 @@ fn send_if_enough(out: &[u8], at: usize) -> Sent {
     }
 }
 
-// Answers every whole line of the text.
-fn answer_lines(frame: Frame, text: &[u8], out: &mut [u8]) -> Lines
-    ensures { λ r. ⌜ r .used ≤ length (now (text .entry)) ⌝ }
-{
-    let mut now = frame;
-    let mut from = 0usize;
-    let mut at = 0usize;
-    let mut going = true;
-    while from < text.len() {
-        let end = bytes::scan::find(text, from, text.len(), 10);
-        if end == text.len() {
-            break;
-        }
-        let after = end + 1;
-        let answered = answers::answer(now, &text[from..end], out, at);
-        let next = answered.frame;
-        now = next;
-        let sent = send_if_enough(out, answered.at);
-        at = sent.at;
-        going = going & sent.going;
-        from = after;
-    }
-    let sent = send(out, at);
-    Lines {
-        frame: now,
-        used: from,
-        going: going & sent,
-    }
-}
-
 // Where the lines begin: past the rest of a long line, if there is one.
-fn lines_begin(text: &[u8], skipping: bool) -> Start
-    ensures { λ r. ⌜ r .from ≤ length (now (text .entry)) ⌝ }
-{
+fn lines_begin(text: &[u8], skipping: bool) -> Start {
     if !skipping {
         return Start {
             from: 0,
             skipping: false,
         };
     }
-    let end = bytes::scan::find(text, 0, text.len(), 10);
+    let end = bytes::scan::find(text, 0, text.len(), b'\n');
     if end == text.len() {
         return Start {
             from: end,
@@ -124,17 +85,31 @@ fn lines_begin(text: &[u8], skipping: bool) -> Start
     }
 }
 
-// Answers every whole line of what was read, past the rest of a long line.
-fn take_lines(frame: Frame, skipping: bool, text: &[u8], out: &mut [u8]) -> Taken {
-    let begin = lines_begin(text, skipping);
-    let from = begin.from;
-    let r = answer_lines(frame, &text[from..], out);
-    let next = r.frame;
+// Answers every whole line of the text from the start on.
+fn take_lines(frame: Frame, start: Start, text: &[u8], out: &mut [u8]) -> Taken {
+    let mut now = frame;
+    let mut from = start.from;
+    let mut at = 0usize;
+    let mut going = true;
+    while from < text.len() {
+        let end = bytes::scan::find(text, from, text.len(), b'\n');
+        if end == text.len() {
+            break;
+        }
+        let answered = answers::answer(now, &text[from..end], out, at);
+        let next = answered.frame;
+        now = next;
+        let sent = send_if_enough(out, answered.at);
+        at = sent.at;
+        going = going & sent.going;
+        from = end + 1;
+    }
+    let sent = send(out, at);
     Taken {
-        frame: next,
-        used: from + r.used,
-        skipping: begin.skipping,
-        going: r.going,
+        frame: now,
+        used: from,
+        skipping: start.skipping,
+        going: going & sent,
     }
 }
 
@@ -179,31 +154,41 @@ fn last(state: State, buffer: &[u8], out: &mut [u8]) -> State {
     }
 }
 
-// Reads once, answers the lines that are whole, and holds the rest.
-fn step(state: State, buffer: &mut [u8], out: &mut [u8]) -> State {
-    let filled = fill(buffer, state.held);
-    if filled == state.held {
-        return last(state, buffer, out);
-    }
-    let end = within(filled, buffer);
-    let frame = state.frame;
-    let taken = take_lines(frame, state.skipping, &buffer[..end], out);
-    let next = taken.frame;
-    let kept = keep(buffer, taken.used, end);
+// What is held after the lines of a read, `kept` bytes of the last. That line may be too long already.
+fn hold(taken: Taken, kept: usize) -> State {
+    let frame = taken.frame;
     if LONGEST < kept {
         return State {
-            frame: next,
+            frame,
             held: 0,
             skipping: true,
             going: io::write_all(STDOUT_FILENO, b"? long line\n"),
         };
     }
     State {
-        frame: next,
+        frame,
         held: kept,
         skipping: taken.skipping,
         going: taken.going,
     }
+}
+
+// Answers the lines that are whole of the buffer's first bytes, up to `end`, and holds the rest.
+fn take(state: State, end: usize, buffer: &mut [u8], out: &mut [u8]) -> State {
+    let n = within(end, buffer);
+    let start = lines_begin(&buffer[..n], state.skipping);
+    let taken = take_lines(state.frame, start, &buffer[..n], out);
+    let kept = keep(buffer, taken.used, n);
+    hold(taken, kept)
+}
+
+// Reads once, and answers what there is then.
+fn step(state: State, buffer: &mut [u8], out: &mut [u8]) -> State {
+    let filled = fill(buffer, state.held);
+    if filled == state.held {
+        return last(state, buffer, out);
+    }
+    take(state, filled, buffer, out)
 }
 
 // A proved loop has to end, and nothing says that the input does. So the loop counts its turns down, from a number that no run uses up.

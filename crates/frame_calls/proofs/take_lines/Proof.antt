@@ -1,18 +1,18 @@
 use mathlib.Core.Path.{_≡_}
-use Prim.Native.Nat.{_≤_, _-_}
+use Prim.Native.Nat.{_-_}
 use lib.ListN.{length}
 use borrow.Author.Needs.{needs}
-use Rattle.frame_calls.proofs.answer_lines.Statement.{statement}
-use Rattle.frame_calls.proofs.answer_lines.Tie as tie
+use Rattle.frame_calls.proofs.take_lines.Statement.{statement}
+use Rattle.frame_calls.proofs.take_lines.Tie as tie
 
 abbrev Inv-loop : tie.InvT-loop
-Inv-loop text out₀ now₀ from₀ at₀ going₀ out now from at going = (from ≤ length text) × (length out ≡ length out₀)
+Inv-loop start text out₀ now₀ from₀ at₀ going₀ out now from at going = length out ≡ length out₀
 
 abbrev μ-loop : tie.MeasureT-loop
-μ-loop text out₀ now₀ from₀ at₀ going₀ out now from at going = length text - from
+μ-loop start text out₀ now₀ from₀ at₀ going₀ out now from at going = length text - from
 
-pub answer-lines-spec : {M : Type 1} → statement M
-answer-lines-spec =
+pub take-lines-spec : {M : Type 1} → statement M
+take-lines-spec =
     tie.close
     (tie.spec
     Inv-loop
@@ -22,9 +22,9 @@ answer-lines-spec =
     (λ c. search needs)
     (λ c. search needs)
     (λ c. search needs)
+    (λ c κs. search needs)
+    (λ c κs. search needs)
     (λ c. search needs)
-    (λ c κs. search needs)
-    (λ c κs. search needs)
     (λ c. search needs)
     (λ c. search needs)
     (λ c κs. search needs)
