@@ -1,6 +1,8 @@
 // A line is read, its call made, and its answer put into the output.
 
+use crate::text::put_bad_line;
 use crate::text::put_head;
+use crate::text::put_long_line;
 use crate::text::put_mark;
 use crate::text::put_number;
 use crate::text::put_part;
@@ -67,12 +69,24 @@ fn of_head(
     }
 }
 
-fn of_head_number(keyword: usize, frame: Frame, head: usize, n: usize) -> Answer {
+fn head_number(keyword: usize, frame: Frame, head: usize, n: usize) -> Answer {
     match keyword {
         LOAD => frame.load(head, n),
         BACK => frame.back(head, n),
         _ => frame.drop(head, n),
     }
+}
+
+fn of_head_number(
+    keyword: usize,
+    frame: Frame,
+    head: usize,
+    n: usize,
+    line: &[u8],
+    out: &mut [u8],
+    at: usize,
+) -> Answered {
+    plain(head_number(keyword, frame, head, n), line, out, at)
 }
 
 fn write(frame: Frame, bytes: &mut [u8], line: &[u8], out: &mut [u8], at: usize) -> Answered {
@@ -112,6 +126,20 @@ fn of_bytes(
     with_bytes(keyword, frame, &mut bytes[..n], line, out, at)
 }
 
+fn with_sheet(
+    keyword: usize,
+    sheet: &[u8],
+    entry: usize,
+    line: &[u8],
+    out: &mut [u8],
+    at: usize,
+) -> usize {
+    match keyword {
+        CHECK => put_number(line, sheets::check_entry(sheet, entry), out, at),
+        _ => put_part(line, sheets::lookup(sheet, entry), out, at),
+    }
+}
+
 fn of_bytes_number(
     keyword: usize,
     part: Part,
@@ -122,11 +150,7 @@ fn of_bytes_number(
 ) -> usize {
     let mut bytes = [0u8; 4096];
     let n = digits::bytes(text(line, part), &mut bytes);
-    let sheet = &bytes[..n];
-    match keyword {
-        CHECK => put_number(line, sheets::check_entry(sheet, entry), out, at),
-        _ => put_part(line, sheets::lookup(sheet, entry), out, at),
-    }
+    with_sheet(keyword, &bytes[..n], entry, line, out, at)
 }
 
 fn run(
@@ -224,11 +248,6 @@ fn of_two(
     )
 }
 
-fn said(frame: Frame, answer: &[u8], out: &mut [u8], at: usize) -> Answered {
-    let to = digits::put(answer, out, at);
-    Answered { frame, at: to }
-}
-
 // The lines with samples. A silent line gets no answer.
 fn of_samples(call: Call, frame: Frame, line: &[u8], out: &mut [u8], at: usize) -> Answered {
     match call {
@@ -238,20 +257,29 @@ fn of_samples(call: Call, frame: Frame, line: &[u8], out: &mut [u8], at: usize) 
     }
 }
 
-pub(crate) fn answer(frame: Frame, line: &[u8], out: &mut [u8], at: usize) -> Answered {
-    if 65535 < line.len() {
-        return said(frame, b"? long line\n", out, at);
-    }
-    let call = call_text::call_of(line);
+fn of_call(call: Call, frame: Frame, line: &[u8], out: &mut [u8], at: usize) -> Answered {
     match call {
-        Call::BadLine => said(frame, b"? bad line\n", out, at),
+        Call::BadLine => Answered {
+            frame,
+            at: put_bad_line(out, at),
+        },
         Call::OfHead(k, h) => of_head(k, frame, h, line, out, at),
-        Call::OfHeadNumber(k, h, n) => plain(of_head_number(k, frame, h, n), line, out, at),
+        Call::OfHeadNumber(k, h, n) => of_head_number(k, frame, h, n, line, out, at),
         Call::OfBytes(k, b) => of_bytes(k, frame, b, line, out, at),
-        Call::OfBytesNumber(k, b, n) => {
-            let to = of_bytes_number(k, b, n, line, out, at);
-            Answered { frame, at: to }
-        }
+        Call::OfBytesNumber(k, b, n) => Answered {
+            frame,
+            at: of_bytes_number(k, b, n, line, out, at),
+        },
         _ => of_samples(call, frame, line, out, at),
     }
+}
+
+pub(crate) fn answer(frame: Frame, line: &[u8], out: &mut [u8], at: usize) -> Answered {
+    if 65535 < line.len() {
+        return Answered {
+            frame,
+            at: put_long_line(out, at),
+        };
+    }
+    of_call(call_text::call_of(line), frame, line, out, at)
 }

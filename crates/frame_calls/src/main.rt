@@ -29,11 +29,18 @@ struct Start {
     skipping: bool,
 }
 
-// How far the lines of a text were answered, and whether the output still takes answers.
+// How far the lines of a text were answered.
 struct Taken {
     frame: Frame,
     used: usize,
     skipping: bool,
+    going: bool,
+}
+
+// The frame after a line, the place behind the answers in the output, and whether it still takes answers.
+struct Progress {
+    frame: Frame,
+    at: usize,
     going: bool,
 }
 
@@ -85,31 +92,40 @@ fn lines_begin(text: &[u8], skipping: bool) -> Start {
     }
 }
 
+fn answer_line(now: Progress, line: &[u8], out: &mut [u8]) -> Progress {
+    let frame = now.frame;
+    let answered = answers::answer(frame, line, out, now.at);
+    let next = answered.frame;
+    let sent = send_if_enough(out, answered.at);
+    Progress {
+        frame: next,
+        at: sent.at,
+        going: now.going & sent.going,
+    }
+}
+
 // Answers every whole line of the text from the start on.
 fn take_lines(frame: Frame, start: Start, text: &[u8], out: &mut [u8]) -> Taken {
-    let mut now = frame;
+    let mut now = Progress {
+        frame,
+        at: 0,
+        going: true,
+    };
     let mut from = start.from;
-    let mut at = 0usize;
-    let mut going = true;
     while from < text.len() {
         let end = bytes::scan::find(text, from, text.len(), b'\n');
         if end == text.len() {
             break;
         }
-        let answered = answers::answer(now, &text[from..end], out, at);
-        let next = answered.frame;
-        now = next;
-        let sent = send_if_enough(out, answered.at);
-        at = sent.at;
-        going = going & sent.going;
+        now = answer_line(now, &text[from..end], out);
         from = end + 1;
     }
-    let sent = send(out, at);
+    let last = now.frame;
     Taken {
-        frame: now,
+        frame: last,
         used: from,
         skipping: start.skipping,
-        going: going & sent,
+        going: send(out, now.at) & now.going,
     }
 }
 

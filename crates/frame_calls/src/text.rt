@@ -20,7 +20,7 @@ fn keyword(line: &[u8]) -> &[u8] {
 // The keyword, a space and the refusal's number.
 fn numbered(line: &[u8], refusal: u8, out: &mut [u8], at: usize) -> usize {
     let a = digits::put(keyword(line), out, at);
-    let b = digits::put(b" ", out, a);
+    let b = space(out, a);
     number(wide(refusal), out, b)
 }
 
@@ -29,18 +29,30 @@ fn counted(refusal: u8, n: usize, out: &mut [u8], at: usize) -> usize {
     if refusal != 0 {
         return at;
     }
-    let a = digits::put(b" ", out, at);
+    let a = space(out, at);
     number(n, out, a)
 }
 
 // A space and the samples.
 fn spaced(samples: &[f32], out: &mut [u8], at: usize) -> usize {
-    let a = digits::put(b" ", out, at);
+    let a = space(out, at);
     digits::put_samples(samples, out, a)
+}
+
+fn space(out: &mut [u8], at: usize) -> usize {
+    digits::put(b" ", out, at)
 }
 
 fn ended(out: &mut [u8], at: usize) -> usize {
     digits::put(b"\n", out, at)
+}
+
+pub(crate) fn put_bad_line(out: &mut [u8], at: usize) -> usize {
+    digits::put(b"? bad line\n", out, at)
+}
+
+pub(crate) fn put_long_line(out: &mut [u8], at: usize) -> usize {
+    digits::put(b"? long line\n", out, at)
 }
 
 // An answer that is nothing but the number.
@@ -74,14 +86,14 @@ pub(crate) fn put_written(
 ) -> usize {
     let a = numbered(line, refusal, out, at);
     let b = counted(refusal, length, out, a);
-    let c = digits::put(b" ", out, b);
+    let c = space(out, b);
     let d = digits::put_bytes(bytes, out, c);
     ended(out, d)
 }
 
 pub(crate) fn put_part(line: &[u8], part: &[u8], out: &mut [u8], at: usize) -> usize {
     let a = digits::put(keyword(line), out, at);
-    let b = digits::put(b" ", out, a);
+    let b = space(out, a);
     let c = digits::put_bytes(part, out, b);
     ended(out, c)
 }

@@ -6,10 +6,10 @@ use Rattle.frame_calls.proofs.take_lines.Statement.{statement}
 use Rattle.frame_calls.proofs.take_lines.Tie as tie
 
 abbrev Inv-loop : tie.InvT-loop
-Inv-loop start text out₀ now₀ from₀ at₀ going₀ out now from at going = length out ≡ length out₀
+Inv-loop start text out₀ now₀ from₀ out now from = length out ≡ length out₀
 
 abbrev μ-loop : tie.MeasureT-loop
-μ-loop start text out₀ now₀ from₀ at₀ going₀ out now from at going = length text - from
+μ-loop start text out₀ now₀ from₀ out now from = length text - from
 
 pub take-lines-spec : {M : Type 1} → statement M
 take-lines-spec =
@@ -22,7 +22,6 @@ take-lines-spec =
     (λ c. search needs)
     (λ c. search needs)
     (λ c. search needs)
-    (λ c κs. search needs)
     (λ c κs. search needs)
     (λ c. search needs)
     (λ c. search needs)
