@@ -4,7 +4,7 @@ ghost use mathlib.Core.Path.{_≡_};
 ghost use mathlib.Core.Bool.{cond};
 ghost use Prim.Native.Nat.{_≤_};
 ghost use lib.ListN.{length};
-ghost use Rattle.form_text.specs.Part.{partEnd, partAt, partAfter, partCount, partsOf, textOf};
+ghost use Rattle.form_text.specs.Part.{partEnd, partAt, partCount, partsOf, textOf};
 
 // A part of a text, from the place `at` up to `end`. The part behind the last one begins past the text's end, and is empty.
 pub struct Part {

@@ -1,5 +1,4 @@
 use mathlib.Core.Path.{refl}
-use borrow.Author.Needs.{needs}
 use Rattle.form_text.proofs.Names.{Beyond, past-places, placing}
 use Rattle.call_text.specs.Keyword.{shapes, shapeOf}
 use Rattle.call_text.specs.declared.keyword.Shape.the-variants.{NoShape}

@@ -1,4 +1,3 @@
-use borrow.Author.Needs.{needs}
 use Rattle.form_text.specs.Form.{splitForm}
 use Rattle.form_text.proofs.Forms.{forms}
 use Rattle.form_text.proofs.form.split_form.Statement.{statement}
