@@ -1,31 +1,33 @@
 -- The keywords of lines, and what stands behind each.
 use Prim.Native.Nat.{ℕ}
-use mathlib.Core.List.{List, [], _∷_}
+use mathlib.Core.List.{List, [], _∷_, map}
 use lib.ListN.{getD}
-use Rattle.form_text.specs.Name.{ascii, namesIn, placeOf}
+use Rattle.form_text.specs.Name.{ascii, placeOf}
 use Rattle.call_text.specs.declared.keyword.Shape.{Shape}
 use Rattle.call_text.specs.declared.keyword.Shape.the-variants.{Head, HeadNumber, Bytes, BytesNumber, Run, Two, NoShape}
 
--- a keyword's number is its place here
-abbrev pub keywords : List (List ℕ)
-keywords = namesIn (ascii "open load run two rest mark back drop write check lookup head")
-
--- what stands behind each keyword, in the same order
-abbrev pub shapes : List Shape
-shapes =
-    Bytes
-    ∷ HeadNumber
-    ∷ Run
-    ∷ Two
-    ∷ Head
-    ∷ Head
-    ∷ HeadNumber
-    ∷ HeadNumber
-    ∷ Bytes
-    ∷ BytesNumber
-    ∷ BytesNumber
-    ∷ Head
+-- each keyword and what stands behind it, in the order of the keywords' numbers
+abbrev pub lines : List (List ℕ × Shape)
+lines =
+    (ascii "open", Bytes)
+    ∷ (ascii "load", HeadNumber)
+    ∷ (ascii "run", Run)
+    ∷ (ascii "two", Two)
+    ∷ (ascii "rest", Head)
+    ∷ (ascii "mark", Head)
+    ∷ (ascii "back", HeadNumber)
+    ∷ (ascii "drop", HeadNumber)
+    ∷ (ascii "write", Bytes)
+    ∷ (ascii "check", BytesNumber)
+    ∷ (ascii "lookup", BytesNumber)
+    ∷ (ascii "head", Head)
     ∷ []
+
+abbrev pub keywords : List (List ℕ)
+keywords = map (λ (l : List ℕ × Shape). l .0) lines
+
+abbrev pub shapes : List Shape
+shapes = map (λ (l : List ℕ × Shape). l .1) lines
 
 -- the number of the keyword s
 abbrev pub keywordOf : List ℕ → ℕ

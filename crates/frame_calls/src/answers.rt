@@ -1,13 +1,12 @@
 // A line is read, its call made, and its answer put into the output.
 
+use crate::samples::of_samples;
 use crate::text::put_bad_line;
 use crate::text::put_head;
 use crate::text::put_long_line;
 use crate::text::put_mark;
 use crate::text::put_number;
 use crate::text::put_part;
-use crate::text::put_run;
-use crate::text::put_two;
 use crate::text::put_written;
 use call_text::Call;
 use call_text::keyword::BACK;
@@ -20,7 +19,6 @@ use form_text::Part;
 use form_text::text;
 use frame::Answer;
 use frame::Frame;
-use runs::RunForm;
 
 // The frame after the line, and the place behind the answer.
 pub(crate) struct Answered {
@@ -151,110 +149,6 @@ fn of_bytes_number(
     let mut bytes = [0u8; 4096];
     let n = digits::bytes(text(line, part), &mut bytes);
     with_sheet(keyword, &bytes[..n], entry, line, out, at)
-}
-
-fn run(
-    frame: Frame,
-    head: usize,
-    form: RunForm,
-    input: &[f32],
-    output: &mut [f32],
-    line: &[u8],
-    out: &mut [u8],
-    at: usize,
-) -> Answered {
-    let answer = frame.run(head, form, input, output);
-    let next = answer.frame;
-    let to = put_run(line, answer.number, output, out, at);
-    Answered {
-        frame: next,
-        at: to,
-    }
-}
-
-fn of_run(
-    frame: Frame,
-    head: usize,
-    form: RunForm,
-    i: Part,
-    o: Part,
-    line: &[u8],
-    out: &mut [u8],
-    at: usize,
-) -> Answered {
-    let mut input = [0.0f32; 1024];
-    let mut output = [0.0f32; 1024];
-    let n = digits::samples(text(line, i), &mut input);
-    let m = digits::samples(text(line, o), &mut output);
-    run(
-        frame,
-        head,
-        form,
-        &input[..n],
-        &mut output[..m],
-        line,
-        out,
-        at,
-    )
-}
-
-fn two(
-    frame: Frame,
-    head: usize,
-    form: RunForm,
-    input: &[f32],
-    first: &mut [f32],
-    second: &mut [f32],
-    line: &[u8],
-    out: &mut [u8],
-    at: usize,
-) -> Answered {
-    let answer = frame.run_two(head, form, input, first, second);
-    let next = answer.frame;
-    let to = put_two(line, answer.number, first, second, out, at);
-    Answered {
-        frame: next,
-        at: to,
-    }
-}
-
-fn of_two(
-    frame: Frame,
-    head: usize,
-    form: RunForm,
-    i: Part,
-    o: Part,
-    p: Part,
-    line: &[u8],
-    out: &mut [u8],
-    at: usize,
-) -> Answered {
-    let mut input = [0.0f32; 1024];
-    let mut first = [0.0f32; 1024];
-    let mut second = [0.0f32; 1024];
-    let n = digits::samples(text(line, i), &mut input);
-    let m = digits::samples(text(line, o), &mut first);
-    let k = digits::samples(text(line, p), &mut second);
-    two(
-        frame,
-        head,
-        form,
-        &input[..n],
-        &mut first[..m],
-        &mut second[..k],
-        line,
-        out,
-        at,
-    )
-}
-
-// The lines with samples. A silent line gets no answer.
-fn of_samples(call: Call, frame: Frame, line: &[u8], out: &mut [u8], at: usize) -> Answered {
-    match call {
-        Call::OfRun(h, form, i, o) => of_run(frame, h, form, i, o, line, out, at),
-        Call::OfTwo(h, form, i, o, p) => of_two(frame, h, form, i, o, p, line, out, at),
-        _ => Answered { frame, at },
-    }
 }
 
 fn of_call(call: Call, frame: Frame, line: &[u8], out: &mut [u8], at: usize) -> Answered {

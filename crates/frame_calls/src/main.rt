@@ -1,6 +1,7 @@
 // The frame from the command line: reads calls as text, one to a line, makes each on one frame, and writes an answer line for each.
 // The memory is fixed, whatever the length of the input.
 mod answers;
+mod samples;
 mod shown;
 mod text;
 
