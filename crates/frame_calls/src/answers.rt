@@ -1,6 +1,7 @@
 // A line is read, its call made, and its answer put into the output.
 
-use crate::samples::of_samples;
+use crate::samples::of_run;
+use crate::samples::of_two;
 use crate::text::put_bad_line;
 use crate::text::put_head;
 use crate::text::put_long_line;
@@ -153,6 +154,7 @@ fn of_bytes_number(
 
 fn of_call(call: Call, frame: Frame, line: &[u8], out: &mut [u8], at: usize) -> Answered {
     match call {
+        Call::Silent => Answered { frame, at },
         Call::BadLine => Answered {
             frame,
             at: put_bad_line(out, at),
@@ -164,7 +166,8 @@ fn of_call(call: Call, frame: Frame, line: &[u8], out: &mut [u8], at: usize) -> 
             frame,
             at: of_bytes_number(k, b, n, line, out, at),
         },
-        _ => of_samples(call, frame, line, out, at),
+        Call::OfRun(h, form, i, o) => of_run(frame, h, form, i, o, line, out, at),
+        Call::OfTwo(h, form, i, o, p) => of_two(frame, h, form, i, o, p, line, out, at),
     }
 }
 

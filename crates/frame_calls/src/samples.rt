@@ -3,7 +3,6 @@
 use crate::answers::Answered;
 use crate::text::put_run;
 use crate::text::put_two;
-use call_text::Call;
 use form_text::Part;
 use form_text::text;
 use frame::Frame;
@@ -28,7 +27,7 @@ fn run(
     }
 }
 
-fn of_run(
+pub(crate) fn of_run(
     frame: Frame,
     head: usize,
     form: RunForm,
@@ -74,7 +73,7 @@ fn two(
     }
 }
 
-fn of_two(
+pub(crate) fn of_two(
     frame: Frame,
     head: usize,
     form: RunForm,
@@ -102,19 +101,4 @@ fn of_two(
         out,
         at,
     )
-}
-
-// A silent line gets no answer.
-pub(crate) fn of_samples(
-    call: Call,
-    frame: Frame,
-    line: &[u8],
-    out: &mut [u8],
-    at: usize,
-) -> Answered {
-    match call {
-        Call::OfRun(h, form, i, o) => of_run(frame, h, form, i, o, line, out, at),
-        Call::OfTwo(h, form, i, o, p) => of_two(frame, h, form, i, o, p, line, out, at),
-        _ => Answered { frame, at },
-    }
 }
