@@ -1,1 +1,2 @@
+pub mod Buffers
 pub mod Lines

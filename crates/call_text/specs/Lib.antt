@@ -1,1 +1,3 @@
+pub mod Buffer
+pub mod Keyword
 pub mod Line

@@ -1,7 +1,7 @@
 -- The loops that put one list over another. Assumes nothing.
-use Prim.Native.Nat.{ℕ, zero, suc, _+_, _*_, _-_, _/_, _≤_, _<_, min}
+use Prim.Native.Nat.{ℕ, zero, suc, _+_, _-_, _≤_, _/_, _%_, _<_, min}
 use mathlib.Core.Path.{_≡_, refl, sym, ap, _∙_}
-use mathlib.Core.Bool.{Bool, true, false, cond}
+use mathlib.Core.Bool.{Bool, true, false}
 use mathlib.Core.List.{List, [], _∷_, _++_, append-assoc, append-nil}
 use native.Mathlib.Numerals.{add-one}
 use native.Mathlib.Nat.{add-zero, zero-add, add-assoc}
@@ -9,11 +9,12 @@ use native.Mathlib.Omega.{arith}
 use borrow.Author.Needs.{needs}
 use borrow.Author.Tests.{leb-true, leb-false}
 use lib.Dec.{leb}
+use lib.Ieee.{Float, binary32, toBits}
 use lib.ListN.{length, getD, set, take, drop, length-set, length-append}
 use lib.Seq.{paste, paste-zero, paste-suc, length-paste, take-paste, drop-paste, take-append-add, take-append-le, take-all, drop-drop, length-take-le}
 use Rattle.digits.specs.Table.{table}
-use Rattle.digits.specs.Place.{room, placed, Puts}
-use Rattle.digits.specs.Text.{spelled, orDash}
+use Rattle.digits.specs.Place.{room, Puts}
+use Rattle.digits.specs.Text.{glyphOf, wordText, spelled, orDash}
 
 module _ {A : Type 0} where
   pub length-table : (n : ℕ) (f : ℕ → A) → length (table n f) ≡ n
@@ -178,5 +179,18 @@ module _ {A : Type 0} (text : A → List ℕ) where
   pub spell-dash : (xs : List A) {at : ℕ} {ys zs : List ℕ} {r : ℕ} → length xs ≡ 0 → Puts (45 ∷ []) at ys r zs → Puts (orDash xs (spelled text xs)) at ys r zs
   spell-dash [] e p = p
   spell-dash (x ∷ xs) e p = absurd (omega arith)
+
+-- ---- the text of a word
+
+pub word-digits : (w : ℕ) {a b c d e f g h : ℕ} → a ≡ glyphOf (w / 0x1000_0000 % 16) → b ≡ glyphOf (w / 0x100_0000 % 16) → c ≡ glyphOf (w / 0x10_0000 % 16)
+    → d ≡ glyphOf (w / 0x1_0000 % 16) → e ≡ glyphOf (w / 0x1000 % 16) → f ≡ glyphOf (w / 0x100 % 16) → g ≡ glyphOf (w / 0x10 % 16) → h ≡ glyphOf (w % 16)
+    → a ∷ b ∷ c ∷ d ∷ e ∷ f ∷ g ∷ h ∷ [] ≡ wordText w
+word-digits w a b c d e f g h = rw (a, b, c, d, e, f, g, h) refl
+
+pub word-put : (x : Float) {w : ℕ} {t : List ℕ} {at : ℕ} {ys zs : List ℕ} {r : ℕ} → w ≡ toBits binary32 x → t ≡ wordText w → Puts t at ys r zs
+    → Puts (wordText (toBits binary32 x)) at ys r zs
+word-put x w t p = rw (← w, ← t) p
+
+pub ruleset wording = (word-digits, word-put, needs)
 
 pub ruleset putting = (put-inside, put-again, put-done, put-none, fill-start, fill-again, fill-done, put-counts, put-takes, puts-long, spell-start, spell-again, spell-next, spell-done, spell-dash, needs)

@@ -1,19 +1,18 @@
 -- The loops that read digits. Assumes nothing.
-use Prim.Native.Nat.{ℕ, zero, suc, _+_, _*_, _-_, _/_, _%_, _≤_, _<_}
-use mathlib.Core.Path.{_≡_, refl, sym, ap, _∙_}
+use Prim.Native.Nat.{ℕ, zero, suc, _+_, _*_, _-_, _/_, _≤_, _<_}
+use mathlib.Core.Path.{_≡_, refl, sym}
 use mathlib.Core.Bool.{Bool, true, false, cond}
-use mathlib.Core.List.{List, []}
+use mathlib.Core.List.{List}
 use native.Mathlib.Numerals.{add-one}
 use native.Mathlib.Nat.{add-zero, add-suc}
 use native.Mathlib.Omega.{arith}
 use borrow.Author.Needs.{needs}
 use borrow.Author.Tests.{lt-ltb, le-ltb, eqb-true, eqb-false}
-use lib.Dec.{eqb, ltb}
+use lib.Dec.{eqb}
 use lib.ListN.{length, getD}
 use Rattle.digits.specs.Table.{firsts, every}
 use Rattle.digits.specs.Decimal.{digitOf, isDigit, valueTo, numberOf}
-use Rattle.digits.specs.Hex.{hexDigit, isHex, allHex}
-use Rattle.digits.specs.declared.decimal.Number.{Number}
+use Rattle.digits.specs.Hex.{hexDigit, isHex, allHex, pairOf, byteFrom}
 use Rattle.digits.specs.declared.decimal.Number.the-variants.{Is, Bad}
 
 -- ---- a test of every place
@@ -54,6 +53,11 @@ module _ (s : List ℕ) where
 
   pub hex-done : (i : ℕ) → firsts isHex s i ≡ true → i ≤ length s → length s ≤ i → true ≡ allHex s
   hex-done i e a b = let w : i ≡ length s = omega arith in sym (rw w at e)
+
+-- ---- a byte of two digits
+
+pub byte-is : (s : List ℕ) (at k : ℕ) {h l r : ℕ} → h ≡ getD s (at + k) 0 → l ≡ getD s (at + (k + 1)) 0 → r ≡ pairOf h l → r ≡ byteFrom s at k
+byte-is s at k h l r = rw (r, h, l) refl
 
 -- ---- a number
 
@@ -121,4 +125,4 @@ module _ (s : List ℕ) where
       let u : v ≡ valueTo s (length s) = rw w at (c .is) in
       rw (le-ltb (length s) 1 h, le-ltb 20 (length s) l, e, le-ltb 18446744073709551615 (valueTo s (length s)) (rw (← u) (c .fits)), u) refl
 
-pub ruleset reading = (hex-none, hex-more, hex-fail, hex-done, counted-none, counted-more, number-short, number-long, number-other, number-large, number-read, needs)
+pub ruleset reading = (hex-none, hex-more, hex-fail, hex-done, byte-is, counted-none, counted-more, number-short, number-long, number-other, number-large, number-read, needs)

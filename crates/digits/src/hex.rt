@@ -1,12 +1,13 @@
 // Hexadecimal digits of either case, highest first.
 
 ghost use mathlib.Core.Path.{_≡_};
+ghost use Prim.Native.Nat.{_<_};
 ghost use lib.Ieee.{binary32, ofBits};
 ghost use Rattle.digits.specs.Hex.{hexDigit, allHex, pairOf, byteFrom, hexWord, bytesOf, samplesOf};
 ghost use Rattle.digits.specs.Place.{Puts, Counts};
 
 // 16 for a byte that is no digit.
-pub fn digit(b: u8) -> u8
+fn digit(b: u8) -> u8
     ensures { λ r. ⌜ r ≡ hexDigit b ⌝ }
 {
     if b < 48 {
@@ -51,22 +52,24 @@ fn pair(high: u8, low: u8) -> u8
     16 * (digit(high) % 16) + digit(low) % 16
 }
 
-// The byte whose two digits stand at `at`.
-pub fn byte(s: &[u8], at: usize) -> u8
-    ensures { λ r. ⌜ r ≡ byteFrom (now (s .entry)) at 0 ⌝ }
+// The byte whose two digits stand k places after `at`.
+fn byte(s: &[u8], at: usize, k: usize) -> u8
+    requires { ⌜ k < 8 ⌝ }
+    ensures { λ r. ⌜ r ≡ byteFrom (now (s .entry)) at k ⌝ }
 {
-    pair(words::byte_at(s, at, 0), words::byte_at(s, at, 1))
+    pair(words::byte_at(s, at, k), words::byte_at(s, at, k + 1))
 }
 
 // The word whose eight digits stand at `at`.
-pub fn word(s: &[u8], at: usize) -> u32
+fn word(s: &[u8], at: usize) -> u32
     ensures { λ r. ⌜ r ≡ hexWord (now (s .entry)) at ⌝ }
 {
-    let a = pair(words::byte_at(s, at, 0), words::byte_at(s, at, 1));
-    let b = pair(words::byte_at(s, at, 2), words::byte_at(s, at, 3));
-    let c = pair(words::byte_at(s, at, 4), words::byte_at(s, at, 5));
-    let d = pair(words::byte_at(s, at, 6), words::byte_at(s, at, 7));
-    let bytes = [d, c, b, a];
+    let bytes = [
+        byte(s, at, 6),
+        byte(s, at, 4),
+        byte(s, at, 2),
+        byte(s, at, 0),
+    ];
     words::word_at(&bytes, 0)
 }
 
@@ -85,7 +88,7 @@ pub fn bytes(s: &[u8], out: &mut [u8]) -> usize
     let n = filter_core::shortest(s.len() / 2, out.len());
     let mut i = 0usize;
     while i < n {
-        out[i] = byte(s, 2 * i);
+        out[i] = byte(s, 2 * i, 0);
         i += 1;
     }
     n

@@ -38,14 +38,14 @@ fn wide(b: u8) -> u32
     b as u32
 }
 
-pub fn byte_text(b: u8) -> [u8; 2]
+fn byte_text(b: u8) -> [u8; 2]
     ensures { λ r. ⌜ r ≡ byteText b ⌝ }
 {
     let w = wide(b);
     [glyph(w / 16 % 16), glyph(w % 16)]
 }
 
-pub fn word_text(w: u32) -> [u8; 8]
+fn word_text(w: u32) -> [u8; 8]
     ensures { λ r. ⌜ r ≡ wordText w ⌝ }
 {
     [

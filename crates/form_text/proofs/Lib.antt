@@ -1,2 +1,4 @@
+pub mod Names
 pub mod Splits
+pub mod Fields
 pub mod Forms

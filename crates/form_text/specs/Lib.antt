@@ -1,2 +1,4 @@
+pub mod Name
 pub mod Part
+pub mod Field
 pub mod Form

@@ -1,9 +1,10 @@
 // A text split at a separator.
 
 ghost use mathlib.Core.Path.{_≡_};
+ghost use mathlib.Core.Bool.{cond};
 ghost use Prim.Native.Nat.{_≤_};
 ghost use lib.ListN.{length};
-ghost use Rattle.form_text.specs.Part.{sameText, named, partEnd, partAt, present, partsOf, textOf};
+ghost use Rattle.form_text.specs.Part.{partEnd, partAt, partCount, partsOf, textOf};
 
 // A part of a text, from the place `at` up to `end`. The part behind the last one begins past the text's end, and is empty.
 pub struct Part {
@@ -11,7 +12,7 @@ pub struct Part {
     pub end: usize,
 }
 
-// The first six parts. `count` says how many there are, 7 for more than six.
+// How many parts there are, and the first six.
 pub struct Parts {
     pub count: usize,
     pub a: Part,
@@ -20,20 +21,6 @@ pub struct Parts {
     pub d: Part,
     pub e: Part,
     pub f: Part,
-}
-
-// Whether s is the word.
-pub fn same(s: &[u8], word: &[u8]) -> bool
-    ensures { λ r. ⌜ r ≡ sameText (now (s .entry)) (now (word .entry)) ⌝ }
-{
-    check::same(s, word)
-}
-
-// Whether s is the word, and there are so many parts as it goes with.
-pub fn is_named(s: &[u8], word: &[u8], count: usize, parts: usize) -> bool
-    ensures { λ r. ⌜ r ≡ named (now (s .entry)) (now (word .entry)) count parts ⌝ }
-{
-    if same(s, word) { count == parts } else { false }
 }
 
 fn part_end(s: &[u8], separator: u8, at: usize) -> usize
@@ -56,11 +43,23 @@ fn part_at(s: &[u8], separator: u8, at: usize) -> Part
     }
 }
 
-fn is_present(at: usize, length: usize) -> usize
-    ensures { λ r. ⌜ r ≡ present at length ⌝ }
+fn one_if(is: bool) -> usize
+    ensures { λ r. ⌜ r ≡ cond is 1 0 ⌝ }
     ensures { λ r. ⌜ r ≤ 1 ⌝ }
 {
-    if at <= length { 1 } else { 0 }
+    if is { 1 } else { 0 }
+}
+
+fn part_count(s: &[u8], separator: u8) -> usize
+    ensures { λ r. ⌜ r ≡ partCount separator (now (s .entry)) ⌝ }
+{
+    let mut n = 1usize;
+    let mut i = 0usize;
+    while i < s.len() {
+        n += one_if(s[i] == separator);
+        i += 1;
+    }
+    n
 }
 
 pub fn split(s: &[u8], separator: u8) -> Parts
@@ -72,16 +71,8 @@ pub fn split(s: &[u8], separator: u8) -> Parts
     let d = part_at(s, separator, c.end + 1);
     let e = part_at(s, separator, d.end + 1);
     let f = part_at(s, separator, e.end + 1);
-    let n = s.len();
-    let count = 1
-        + is_present(b.at, n)
-        + is_present(c.at, n)
-        + is_present(d.at, n)
-        + is_present(e.at, n)
-        + is_present(f.at, n)
-        + is_present(f.end + 1, n);
     Parts {
-        count: count,
+        count: part_count(s, separator),
         a: a,
         b: b,
         c: c,

@@ -1,305 +1,182 @@
 // A line is read, its call made, and its answer put into the output.
 
+use crate::samples::of_run;
+use crate::samples::of_two;
+use crate::text::put_bad_line;
+use crate::text::put_head;
+use crate::text::put_long_line;
+use crate::text::put_mark;
+use crate::text::put_number;
+use crate::text::put_part;
+use crate::text::put_written;
 use call_text::Call;
+use call_text::keyword::BACK;
+use call_text::keyword::CHECK;
+use call_text::keyword::LOAD;
+use call_text::keyword::MARK;
+use call_text::keyword::OPEN;
+use call_text::keyword::REST;
+use form_text::Part;
+use form_text::text;
+use frame::Answer;
 use frame::Frame;
-use runs::RunForm;
 
-// The frame after the call, and the place behind the answer.
-pub(crate) struct Turn {
+// The frame after the line, and the place behind the answer.
+pub(crate) struct Answered {
     pub(crate) frame: Frame,
     pub(crate) at: usize,
 }
 
-fn wide(b: u8) -> usize {
-    b as usize
+fn plain(answer: Answer, line: &[u8], out: &mut [u8], at: usize) -> Answered {
+    let frame = answer.frame;
+    let to = put_number(line, answer.number, out, at);
+    Answered { frame, at: to }
 }
 
-fn number(n: usize, out: &mut [u8], at: usize) -> usize {
-    let mut text = [0u8; 20];
-    let k = io::decimal(n as u64, &mut text);
-    digits::put(&text[..k], out, at)
-}
-
-// A word, a space and the refusal's number.
-fn numbered(word: &[u8], refusal: u8, out: &mut [u8], at: usize) -> usize {
-    let a = digits::put(word, out, at);
-    let b = digits::put(b" ", out, a);
-    number(wide(refusal), out, b)
-}
-
-fn answered(word: &[u8], refusal: u8, out: &mut [u8], at: usize) -> usize {
-    let a = numbered(word, refusal, out, at);
-    digits::put(b"\n", out, a)
-}
-
-// A space and the buffer, whole.
-fn spaced(samples: &[f32], out: &mut [u8], at: usize) -> usize {
-    let to = digits::put(b" ", out, at);
-    digits::put_samples(samples, out, to)
-}
-
-fn open(frame: Frame, sheet: &[u8], bytes: &mut [u8], out: &mut [u8], at: usize) -> Turn {
-    let n = digits::bytes(sheet, bytes);
-    let answer = frame.open(&bytes[..n]);
-    let next = answer.frame;
-    let to = answered(b"open", answer.number, out, at);
-    Turn {
-        frame: next,
-        at: to,
-    }
-}
-
-fn load(frame: Frame, head: usize, entry: usize, out: &mut [u8], at: usize) -> Turn {
-    let answer = frame.load(head, entry);
-    let next = answer.frame;
-    let to = answered(b"load", answer.number, out, at);
-    Turn {
-        frame: next,
-        at: to,
-    }
-}
-
-fn run(
-    frame: Frame,
-    head: usize,
-    form: RunForm,
-    input: &[f32],
-    first: &mut [f32],
-    out: &mut [u8],
-    at: usize,
-) -> Turn {
-    let answer = frame.run(head, form, input, first);
-    let next = answer.frame;
-    let a = numbered(b"run", answer.number, out, at);
-    let b = spaced(first, out, a);
-    let c = digits::put(b"\n", out, b);
-    Turn { frame: next, at: c }
-}
-
-fn run_line(
-    frame: Frame,
-    head: usize,
-    form: RunForm,
-    in_text: &[u8],
-    out_text: &[u8],
-    input: &mut [f32],
-    first: &mut [f32],
-    out: &mut [u8],
-    at: usize,
-) -> Turn {
-    let n = digits::samples(in_text, input);
-    let m = digits::samples(out_text, first);
-    run(frame, head, form, &input[..n], &mut first[..m], out, at)
-}
-
-fn two(
-    frame: Frame,
-    head: usize,
-    form: RunForm,
-    input: &[f32],
-    first: &mut [f32],
-    second: &mut [f32],
-    out: &mut [u8],
-    at: usize,
-) -> Turn {
-    let answer = frame.run_two(head, form, input, first, second);
-    let next = answer.frame;
-    let a = numbered(b"two", answer.number, out, at);
-    let b = spaced(first, out, a);
-    let c = spaced(second, out, b);
-    let d = digits::put(b"\n", out, c);
-    Turn { frame: next, at: d }
-}
-
-fn two_line(
-    frame: Frame,
-    head: usize,
-    form: RunForm,
-    in_text: &[u8],
-    first_text: &[u8],
-    second_text: &[u8],
-    input: &mut [f32],
-    first: &mut [f32],
-    second: &mut [f32],
-    out: &mut [u8],
-    at: usize,
-) -> Turn {
-    let n = digits::samples(in_text, input);
-    let m = digits::samples(first_text, first);
-    let k = digits::samples(second_text, second);
-    two(
-        frame,
-        head,
-        form,
-        &input[..n],
-        &mut first[..m],
-        &mut second[..k],
-        out,
-        at,
-    )
-}
-
-fn rest(frame: Frame, head: usize, out: &mut [u8], at: usize) -> Turn {
-    let answer = frame.rest(head);
-    let next = answer.frame;
-    let to = answered(b"rest", answer.number, out, at);
-    Turn {
-        frame: next,
-        at: to,
-    }
-}
-
-fn mark(frame: Frame, head: usize, out: &mut [u8], at: usize) -> Turn {
+fn mark(frame: Frame, head: usize, line: &[u8], out: &mut [u8], at: usize) -> Answered {
     let answer = frame.mark(head);
     let next = answer.frame;
-    if answer.number != 0 {
-        let to = answered(b"mark", answer.number, out, at);
-        return Turn {
-            frame: next,
-            at: to,
-        };
-    }
-    let a = digits::put(b"mark 0 ", out, at);
-    let b = number(answer.mark, out, a);
-    let c = digits::put(b"\n", out, b);
-    Turn { frame: next, at: c }
-}
-
-fn back(frame: Frame, head: usize, m: usize, out: &mut [u8], at: usize) -> Turn {
-    let answer = frame.back(head, m);
-    let next = answer.frame;
-    let to = answered(b"back", answer.number, out, at);
-    Turn {
+    let to = put_mark(line, answer.number, answer.mark, out, at);
+    Answered {
         frame: next,
         at: to,
     }
 }
 
-fn drop_mark(frame: Frame, head: usize, m: usize, out: &mut [u8], at: usize) -> Turn {
-    let answer = frame.drop(head, m);
-    let next = answer.frame;
-    let to = answered(b"drop", answer.number, out, at);
-    Turn {
-        frame: next,
-        at: to,
-    }
-}
-
-fn write(frame: Frame, bytes: &mut [u8], out: &mut [u8], at: usize) -> Turn {
-    let answer = frame.write(bytes);
-    let next = answer.frame;
-    let a = numbered(b"write", answer.number, out, at);
-    let b = digits::put(b" ", out, a);
-    let c = written_length(answer.number, answer.length, out, b);
-    let d = digits::put_bytes(bytes, out, c);
-    let e = digits::put(b"\n", out, d);
-    Turn { frame: next, at: e }
-}
-
-fn write_line(frame: Frame, lent: &[u8], bytes: &mut [u8], out: &mut [u8], at: usize) -> Turn {
-    let n = digits::bytes(lent, bytes);
-    write(frame, &mut bytes[..n], out, at)
-}
-
-// A refused write has no length.
-fn written_length(refusal: u8, length: usize, out: &mut [u8], at: usize) -> usize {
-    if refusal != 0 {
-        return at;
-    }
-    let a = number(length, out, at);
-    digits::put(b" ", out, a)
-}
-
-fn check(sheet: &[u8], entry: usize, bytes: &mut [u8], out: &mut [u8], at: usize) -> usize {
-    let n = digits::bytes(sheet, bytes);
-    answered(b"check", sheets::check_entry(&bytes[..n], entry), out, at)
-}
-
-fn lookup(sheet: &[u8], entry: usize, bytes: &mut [u8], out: &mut [u8], at: usize) -> usize {
-    let n = digits::bytes(sheet, bytes);
-    let a = digits::put(b"lookup ", out, at);
-    let b = digits::put_bytes(sheets::lookup(&bytes[..n], entry), out, a);
-    digits::put(b"\n", out, b)
-}
-
-fn head(frame: Frame, head: usize, out: &mut [u8], at: usize) -> Turn {
+fn head(frame: Frame, head: usize, line: &[u8], out: &mut [u8], at: usize) -> Answered {
     let answer = frame.show(head);
     let next = answer.frame;
-    let shown = answer.head;
-    if answer.number != 0 {
-        let to = answered(b"head", answer.number, out, at);
-        return Turn {
-            frame: next,
-            at: to,
-        };
+    let to = put_head(line, answer.number, answer.head, out, at);
+    Answered {
+        frame: next,
+        at: to,
     }
-    let a = digits::put(b"head 0", out, at);
-    let b = crate::shown::head(shown, out, a);
-    let c = digits::put(b"\n", out, b);
-    Turn { frame: next, at: c }
 }
 
-fn said(frame: Frame, answer: &[u8], out: &mut [u8], at: usize) -> Turn {
-    let to = digits::put(answer, out, at);
-    Turn { frame, at: to }
-}
-
-pub(crate) fn answer(
+fn of_head(
+    keyword: usize,
     frame: Frame,
+    h: usize,
     line: &[u8],
-    input: &mut [f32],
-    first: &mut [f32],
-    second: &mut [f32],
-    bytes: &mut [u8],
     out: &mut [u8],
     at: usize,
-) -> Turn {
-    if 65535 < line.len() {
-        return said(frame, b"? long line\n", out, at);
+) -> Answered {
+    match keyword {
+        REST => plain(frame.rest(h), line, out, at),
+        MARK => mark(frame, h, line, out, at),
+        _ => head(frame, h, line, out, at),
     }
-    let call = call_text::call_of(line);
+}
+
+fn head_number(keyword: usize, frame: Frame, head: usize, n: usize) -> Answer {
+    match keyword {
+        LOAD => frame.load(head, n),
+        BACK => frame.back(head, n),
+        _ => frame.drop(head, n),
+    }
+}
+
+fn of_head_number(
+    keyword: usize,
+    frame: Frame,
+    head: usize,
+    n: usize,
+    line: &[u8],
+    out: &mut [u8],
+    at: usize,
+) -> Answered {
+    plain(head_number(keyword, frame, head, n), line, out, at)
+}
+
+fn write(frame: Frame, bytes: &mut [u8], line: &[u8], out: &mut [u8], at: usize) -> Answered {
+    let answer = frame.write(bytes);
+    let next = answer.frame;
+    let to = put_written(line, answer.number, answer.length, bytes, out, at);
+    Answered {
+        frame: next,
+        at: to,
+    }
+}
+
+fn with_bytes(
+    keyword: usize,
+    frame: Frame,
+    bytes: &mut [u8],
+    line: &[u8],
+    out: &mut [u8],
+    at: usize,
+) -> Answered {
+    match keyword {
+        OPEN => plain(frame.open(bytes), line, out, at),
+        _ => write(frame, bytes, line, out, at),
+    }
+}
+
+fn of_bytes(
+    keyword: usize,
+    frame: Frame,
+    part: Part,
+    line: &[u8],
+    out: &mut [u8],
+    at: usize,
+) -> Answered {
+    let mut bytes = [0u8; 4096];
+    let n = digits::bytes(text(line, part), &mut bytes);
+    with_bytes(keyword, frame, &mut bytes[..n], line, out, at)
+}
+
+fn with_sheet(
+    keyword: usize,
+    sheet: &[u8],
+    entry: usize,
+    line: &[u8],
+    out: &mut [u8],
+    at: usize,
+) -> usize {
+    match keyword {
+        CHECK => put_number(line, sheets::check_entry(sheet, entry), out, at),
+        _ => put_part(line, sheets::lookup(sheet, entry), out, at),
+    }
+}
+
+fn of_bytes_number(
+    keyword: usize,
+    part: Part,
+    entry: usize,
+    line: &[u8],
+    out: &mut [u8],
+    at: usize,
+) -> usize {
+    let mut bytes = [0u8; 4096];
+    let n = digits::bytes(text(line, part), &mut bytes);
+    with_sheet(keyword, &bytes[..n], entry, line, out, at)
+}
+
+fn of_call(call: Call, frame: Frame, line: &[u8], out: &mut [u8], at: usize) -> Answered {
     match call {
-        Call::Silent => Turn { frame, at },
-        Call::BadLine => said(frame, b"? bad line\n", out, at),
-        Call::Open(sheet) => open(frame, form_text::text(line, sheet), bytes, out, at),
-        Call::Load(h, e) => load(frame, h, e, out, at),
-        Call::Run(h, form, i, o) => run_line(
+        Call::Silent => Answered { frame, at },
+        Call::BadLine => Answered {
             frame,
-            h,
-            form,
-            form_text::text(line, i),
-            form_text::text(line, o),
-            input,
-            first,
-            out,
-            at,
-        ),
-        Call::Two(h, form, i, o, p) => two_line(
+            at: put_bad_line(out, at),
+        },
+        Call::OfHead(k, h) => of_head(k, frame, h, line, out, at),
+        Call::OfHeadNumber(k, h, n) => of_head_number(k, frame, h, n, line, out, at),
+        Call::OfBytes(k, b) => of_bytes(k, frame, b, line, out, at),
+        Call::OfBytesNumber(k, b, n) => Answered {
             frame,
-            h,
-            form,
-            form_text::text(line, i),
-            form_text::text(line, o),
-            form_text::text(line, p),
-            input,
-            first,
-            second,
-            out,
-            at,
-        ),
-        Call::Rest(h) => rest(frame, h, out, at),
-        Call::Mark(h) => mark(frame, h, out, at),
-        Call::Back(h, m) => back(frame, h, m, out, at),
-        Call::Drop(h, m) => drop_mark(frame, h, m, out, at),
-        Call::Write(lent) => write_line(frame, form_text::text(line, lent), bytes, out, at),
-        Call::Check(sheet, e) => {
-            let to = check(form_text::text(line, sheet), e, bytes, out, at);
-            Turn { frame, at: to }
-        }
-        Call::Lookup(sheet, e) => {
-            let to = lookup(form_text::text(line, sheet), e, bytes, out, at);
-            Turn { frame, at: to }
-        }
-        Call::Head(h) => head(frame, h, out, at),
+            at: of_bytes_number(k, b, n, line, out, at),
+        },
+        Call::OfRun(h, form, i, o) => of_run(frame, h, form, i, o, line, out, at),
+        Call::OfTwo(h, form, i, o, p) => of_two(frame, h, form, i, o, p, line, out, at),
     }
+}
+
+pub(crate) fn answer(frame: Frame, line: &[u8], out: &mut [u8], at: usize) -> Answered {
+    if 65535 < line.len() {
+        return Answered {
+            frame,
+            at: put_long_line(out, at),
+        };
+    }
+    of_call(call_text::call_of(line), frame, line, out, at)
 }

@@ -1,10 +1,10 @@
 // The frame from the command line: reads calls as text, one to a line, makes each on one frame, and writes an answer line for each.
 // The memory is fixed, whatever the length of the input.
 mod answers;
+mod samples;
 mod shown;
+mod text;
 
-ghost use Prim.Native.Nat.{_≤_};
-ghost use lib.ListN.{length};
 ghost use Rattle.digits.specs.Place.{Counts};
 use frame::Frame;
 use libc::STDIN_FILENO;
@@ -15,13 +15,6 @@ const LONGEST: usize = 65535;
 
 // Answers are written once they take so many bytes. The output has room for one more, the longest of which takes less than 32,768.
 const ENOUGH: usize = 65536;
-
-// How far the lines of a text were answered, and whether the output still takes answers.
-struct Lines {
-    frame: Frame,
-    used: usize,
-    going: bool,
-}
 
 // What goes from one read to the next: the frame, how many bytes of an unfinished line stand at the start of the buffer, and whether the
 // rest of a long line is still to be passed over.
@@ -37,10 +30,18 @@ struct Start {
     skipping: bool,
 }
 
+// How far the lines of a text were answered.
 struct Taken {
     frame: Frame,
     used: usize,
     skipping: bool,
+    going: bool,
+}
+
+// The frame after a line, the place behind the answers in the output, and whether it still takes answers.
+struct Progress {
+    frame: Frame,
+    at: usize,
     going: bool,
 }
 
@@ -71,55 +72,15 @@ fn send_if_enough(out: &[u8], at: usize) -> Sent {
     }
 }
 
-// Answers every whole line of the text.
-fn answer_lines(
-    frame: Frame,
-    text: &[u8],
-    input: &mut [f32],
-    first: &mut [f32],
-    second: &mut [f32],
-    bytes: &mut [u8],
-    out: &mut [u8],
-) -> Lines
-    ensures { λ r. ⌜ r .used ≤ length (now (text .entry)) ⌝ }
-{
-    let mut now = frame;
-    let mut from = 0usize;
-    let mut at = 0usize;
-    let mut going = true;
-    while from < text.len() {
-        let end = bytes::scan::find(text, from, text.len(), 10);
-        if end == text.len() {
-            break;
-        }
-        let after = end + 1;
-        let turn = answers::answer(now, &text[from..end], input, first, second, bytes, out, at);
-        let next = turn.frame;
-        now = next;
-        let sent = send_if_enough(out, turn.at);
-        at = sent.at;
-        going = going & sent.going;
-        from = after;
-    }
-    let sent = send(out, at);
-    Lines {
-        frame: now,
-        used: from,
-        going: going & sent,
-    }
-}
-
 // Where the lines begin: past the rest of a long line, if there is one.
-fn lines_begin(text: &[u8], skipping: bool) -> Start
-    ensures { λ r. ⌜ r .from ≤ length (now (text .entry)) ⌝ }
-{
+fn lines_begin(text: &[u8], skipping: bool) -> Start {
     if !skipping {
         return Start {
             from: 0,
             skipping: false,
         };
     }
-    let end = bytes::scan::find(text, 0, text.len(), 10);
+    let end = bytes::scan::find(text, 0, text.len(), b'\n');
     if end == text.len() {
         return Start {
             from: end,
@@ -132,26 +93,40 @@ fn lines_begin(text: &[u8], skipping: bool) -> Start
     }
 }
 
-// Answers every whole line of what was read, past the rest of a long line.
-fn take_lines(
-    frame: Frame,
-    skipping: bool,
-    text: &[u8],
-    input: &mut [f32],
-    first: &mut [f32],
-    second: &mut [f32],
-    bytes: &mut [u8],
-    out: &mut [u8],
-) -> Taken {
-    let begin = lines_begin(text, skipping);
-    let from = begin.from;
-    let r = answer_lines(frame, &text[from..], input, first, second, bytes, out);
-    let next = r.frame;
-    Taken {
+fn answer_line(now: Progress, line: &[u8], out: &mut [u8]) -> Progress {
+    let frame = now.frame;
+    let answered = answers::answer(frame, line, out, now.at);
+    let next = answered.frame;
+    let sent = send_if_enough(out, answered.at);
+    Progress {
         frame: next,
-        used: from + r.used,
-        skipping: begin.skipping,
-        going: r.going,
+        at: sent.at,
+        going: now.going & sent.going,
+    }
+}
+
+// Answers every whole line of the text from the start on.
+fn take_lines(frame: Frame, start: Start, text: &[u8], out: &mut [u8]) -> Taken {
+    let mut now = Progress {
+        frame,
+        at: 0,
+        going: true,
+    };
+    let mut from = start.from;
+    while from < text.len() {
+        let end = bytes::scan::find(text, from, text.len(), b'\n');
+        if end == text.len() {
+            break;
+        }
+        now = answer_line(now, &text[from..end], out);
+        from = end + 1;
+    }
+    let last = now.frame;
+    Taken {
+        frame: last,
+        used: from,
+        skipping: start.skipping,
+        going: send(out, now.at) & now.going,
     }
 }
 
@@ -182,20 +157,12 @@ fn keep(buffer: &mut [u8], from: usize, end: usize) -> usize {
 }
 
 // The input has ended. The last line may lack its line feed.
-fn last(
-    state: State,
-    buffer: &[u8],
-    input: &mut [f32],
-    first: &mut [f32],
-    second: &mut [f32],
-    bytes: &mut [u8],
-    out: &mut [u8],
-) -> State {
+fn last(state: State, buffer: &[u8], out: &mut [u8]) -> State {
     let frame = state.frame;
     let n = within(state.held, buffer);
-    let turn = answers::answer(frame, &buffer[..n], input, first, second, bytes, out, 0);
-    let next = turn.frame;
-    send(out, turn.at);
+    let answered = answers::answer(frame, &buffer[..n], out, 0);
+    let next = answered.frame;
+    send(out, answered.at);
     State {
         frame: next,
         held: 0,
@@ -204,59 +171,45 @@ fn last(
     }
 }
 
-// Reads once, answers the lines that are whole, and holds the rest.
-fn step(
-    state: State,
-    buffer: &mut [u8],
-    input: &mut [f32],
-    first: &mut [f32],
-    second: &mut [f32],
-    bytes: &mut [u8],
-    out: &mut [u8],
-) -> State {
-    let filled = fill(buffer, state.held);
-    if filled == state.held {
-        return last(state, buffer, input, first, second, bytes, out);
-    }
-    let end = within(filled, buffer);
-    let frame = state.frame;
-    let taken = take_lines(
-        frame,
-        state.skipping,
-        &buffer[..end],
-        input,
-        first,
-        second,
-        bytes,
-        out,
-    );
-    let next = taken.frame;
-    let kept = keep(buffer, taken.used, end);
+// What is held after the lines of a read, `kept` bytes of the last. That line may be too long already.
+fn hold(taken: Taken, kept: usize) -> State {
+    let frame = taken.frame;
     if LONGEST < kept {
         return State {
-            frame: next,
+            frame,
             held: 0,
             skipping: true,
             going: io::write_all(STDOUT_FILENO, b"? long line\n"),
         };
     }
     State {
-        frame: next,
+        frame,
         held: kept,
         skipping: taken.skipping,
         going: taken.going,
     }
 }
 
+// Answers the lines that are whole of the buffer's first bytes, up to `end`, and holds the rest.
+fn take(state: State, end: usize, buffer: &mut [u8], out: &mut [u8]) -> State {
+    let n = within(end, buffer);
+    let start = lines_begin(&buffer[..n], state.skipping);
+    let taken = take_lines(state.frame, start, &buffer[..n], out);
+    let kept = keep(buffer, taken.used, n);
+    hold(taken, kept)
+}
+
+// Reads once, and answers what there is then.
+fn step(state: State, buffer: &mut [u8], out: &mut [u8]) -> State {
+    let filled = fill(buffer, state.held);
+    if filled == state.held {
+        return last(state, buffer, out);
+    }
+    take(state, filled, buffer, out)
+}
+
 // A proved loop has to end, and nothing says that the input does. So the loop counts its turns down, from a number that no run uses up.
-fn serve(
-    buffer: &mut [u8],
-    input: &mut [f32],
-    first: &mut [f32],
-    second: &mut [f32],
-    bytes: &mut [u8],
-    out: &mut [u8],
-) {
+fn serve(buffer: &mut [u8], out: &mut [u8]) {
     let mut state = State {
         frame: Frame::fresh(),
         held: 0,
@@ -265,24 +218,13 @@ fn serve(
     };
     let mut turns = u64::MAX;
     while turns > 0 && state.going {
-        state = step(state, buffer, input, first, second, bytes, out);
+        state = step(state, buffer, out);
         turns -= 1;
     }
 }
 
 fn main() {
     let mut buffer = [0u8; 131072];
-    let mut input = [0.0f32; 1024];
-    let mut first = [0.0f32; 1024];
-    let mut second = [0.0f32; 1024];
-    let mut bytes = [0u8; 4096];
     let mut out = [0u8; 98304];
-    serve(
-        &mut buffer,
-        &mut input,
-        &mut first,
-        &mut second,
-        &mut bytes,
-        &mut out,
-    );
+    serve(&mut buffer, &mut out);
 }

@@ -5,10 +5,10 @@ use Rattle.frame_calls.proofs.serve.Statement.{statement}
 use Rattle.frame_calls.proofs.serve.Tie as tie
 
 abbrev Inv-loop : tie.InvT-loop
-Inv-loop buffer₀ input₀ first₀ second₀ bytes₀ out₀ state₀ turns₀ buffer input first second bytes out state turns = (length buffer ≡ length buffer₀) × (length input ≡ length input₀) × (length first ≡ length first₀) × (length second ≡ length second₀) × (length bytes ≡ length bytes₀) × (length out ≡ length out₀)
+Inv-loop buffer₀ out₀ state₀ turns₀ buffer out state turns = (length buffer ≡ length buffer₀) × (length out ≡ length out₀)
 
 abbrev μ-loop : tie.MeasureT-loop
-μ-loop buffer₀ input₀ first₀ second₀ bytes₀ out₀ state₀ turns₀ buffer input first second bytes out state turns = turns
+μ-loop buffer₀ out₀ state₀ turns₀ buffer out state turns = turns
 
 pub serve-spec : {M : Type 1} → statement M
 serve-spec =
@@ -19,14 +19,6 @@ serve-spec =
     (λ c κs. search needs)
     (λ c. search needs)
     (λ c κs. search needs)
-    (λ c. search needs)
-    (λ c. search needs)
-    (λ c. search needs)
-    (λ c. search needs)
-    (λ c. search needs)
-    (λ c. search needs)
-    (λ c. search needs)
-    (λ c. search needs)
     (λ c. search needs)
     (λ c. search needs)
     (λ c. search needs)

@@ -1,8 +1,6 @@
 use native.Mathlib.Nat.{le-of-lt, le-refl}
 use mathlib.Core.Path.{sym}
-use native.Mathlib.Omega.{arith}
 use lib.Seq.{length-take-le}
-use borrow.Author.Needs.{needs}
 use Rattle.frame_calls.proofs.within.Statement.{statement}
 use Rattle.frame_calls.proofs.within.Tie as tie
 

@@ -1,9 +1,7 @@
 use borrow.Author.Needs.{needs}
+use Rattle.digits.proofs.Putting.{wording}
 use Rattle.digits.proofs.output.put_word.Statement.{statement}
 use Rattle.digits.proofs.output.put_word.Tie as tie
-
-returns : tie.Need-returns
-returns c = rw (← c .before .before .before .before .before .before .f32-to-word .ensures, ← c .before .before .before .before .before .word-text .ensures) (c .before .before .put .ensures)
 
 pub put-word-spec : {M : Type 1} → statement M
 put-word-spec =
@@ -14,4 +12,4 @@ put-word-spec =
     (λ c. search needs)
     (λ c κs. search needs)
     (λ c. search needs)
-    returns)
+    (λ c. search wording))

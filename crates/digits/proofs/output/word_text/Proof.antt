@@ -1,9 +1,7 @@
 use borrow.Author.Needs.{needs}
+use Rattle.digits.proofs.Putting.{wording}
 use Rattle.digits.proofs.output.word_text.Statement.{statement}
 use Rattle.digits.proofs.output.word_text.Tie as tie
-
-returns : tie.Need-returns
-returns c = cc
 
 pub word-text-spec : {M : Type 1} → statement M
 word-text-spec =
@@ -17,4 +15,4 @@ word-text-spec =
     (λ c κs. search needs)
     (λ c κs. search needs)
     (λ c κs. search needs)
-    returns)
+    (λ c. search wording))

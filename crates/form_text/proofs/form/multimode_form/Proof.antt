@@ -1,15 +1,18 @@
 use borrow.Author.Needs.{needs}
+use Rattle.form_text.specs.Form.{multimodeForm}
+use Rattle.form_text.proofs.Forms.{forms}
 use Rattle.form_text.proofs.form.multimode_form.Statement.{statement}
 use Rattle.form_text.proofs.form.multimode_form.Tie as tie
 
-returns : tie.Need-returns
-returns c = rw (c .before .multimode .given .1)
-
 pub multimode-form-spec : {M : Type 1} → statement M
+unfolding multimodeForm
 multimode-form-spec =
     tie.close
     (tie.spec
+    (λ c. search forms)
+    (λ c κs. search needs)
+    (λ c κs. search needs)
     (λ c. search needs)
     (λ c. search needs)
-    returns
-    (λ c. search needs))
+    (λ c. search forms)
+    (λ c. search forms))

@@ -1,0 +1,21 @@
+use borrow.Author.Needs.{needs}
+use Rattle.call_text.specs.Line.{bytesNumberCall}
+use Rattle.call_text.proofs.Lines.{lines}
+use Rattle.call_text.proofs.line.bytes_number_call.Statement.{statement}
+use Rattle.call_text.proofs.line.bytes_number_call.Tie as tie
+
+pub bytes-number-call-spec : {M : Type 1} → statement M
+unfolding bytesNumberCall
+bytes-number-call-spec =
+    tie.close
+    (tie.spec
+    (λ c. search lines)
+    (λ c κs. search needs)
+    (λ c κs. search needs)
+    (λ c. search needs)
+    (λ c. search needs)
+    (λ c. search lines)
+    (λ c κs. search needs)
+    (λ c κs. search needs)
+    (λ c. search lines)
+    (λ c. search lines))
