@@ -1,79 +1,46 @@
 // A head as text: the type of its filter and the retained numbers in the source's declared order, with colons between.
 
+use any_filter::Filter;
+use any_filter::FilterType;
 use frame::Head;
 use frame::Slot;
 use frame::Snapshot;
-use runs::Filter;
 
 fn word(x: f32, out: &mut [u8], at: usize) -> usize {
     let to = digits::put(b":", out, at);
     digits::put_word(x, out, to)
 }
 
-fn filter(f: Filter, out: &mut [u8], at: usize) -> usize {
-    match f {
-        Filter::Dc { pole, x, y } => {
-            let a = digits::put(b"dc", out, at);
-            let b = word(pole, out, a);
-            let c = word(x, out, b);
-            word(y, out, c)
-        }
-        Filter::OnePole { g, gi, state } => {
-            let a = digits::put(b"onepole", out, at);
-            let b = word(g, out, a);
-            let c = word(gi, out, b);
-            word(state, out, c)
-        }
-        Filter::Svf {
-            g,
-            r,
-            h,
-            state_1,
-            state_2,
-        } => {
-            let a = digits::put(b"svf", out, at);
-            let b = word(g, out, a);
-            let c = word(r, out, b);
-            let d = word(h, out, c);
-            let e = word(state_1, out, d);
-            word(state_2, out, e)
-        }
-        Filter::Naive { f, damp, lp, bp } => {
-            let a = digits::put(b"naive", out, at);
-            let b = word(f, out, a);
-            let c = word(damp, out, b);
-            let d = word(lp, out, c);
-            word(bp, out, d)
-        }
-        Filter::Modified { f, fq, x, lp, bp } => {
-            let a = digits::put(b"modified", out, at);
-            let b = word(f, out, a);
-            let c = word(fq, out, b);
-            let d = word(x, out, c);
-            let e = word(lp, out, d);
-            word(bp, out, e)
-        }
-        Filter::Crossover {
-            f,
-            fq,
-            x_0,
-            x_1,
-            lp_0,
-            lp_1,
-            bp_0,
-            bp_1,
-        } => {
-            let a = digits::put(b"crossover", out, at);
-            let b = word(f, out, a);
-            let c = word(fq, out, b);
-            let d = word(x_0, out, c);
-            let e = word(x_1, out, d);
-            let g = word(lp_0, out, e);
-            let h = word(lp_1, out, g);
-            let i = word(bp_0, out, h);
-            word(bp_1, out, i)
-        }
+fn name(filter: FilterType, out: &mut [u8], at: usize) -> usize {
+    match filter {
+        FilterType::DcBlocker => digits::put(b"dc", out, at),
+        FilterType::OnePole => digits::put(b"onepole", out, at),
+        FilterType::Svf => digits::put(b"svf", out, at),
+        FilterType::NaiveSvf => digits::put(b"naive", out, at),
+        FilterType::ModifiedSvf => digits::put(b"modified", out, at),
+        FilterType::CrossoverSvf => digits::put(b"crossover", out, at),
     }
+}
+
+fn word_if(there: bool, x: f32, out: &mut [u8], at: usize) -> usize {
+    if there { word(x, out, at) } else { at }
+}
+
+// The first `count` of the fields.
+fn fields(v: [f32; 8], count: usize, out: &mut [u8], at: usize) -> usize {
+    let mut to = at;
+    let mut i = 0usize;
+    while i < 8 {
+        to = word_if(i < count, v[i], out, to);
+        i += 1;
+    }
+    to
+}
+
+fn filter(f: Filter, out: &mut [u8], at: usize) -> usize {
+    let kind = f.filter_type();
+    let to = name(kind, out, at);
+    fields(f.fields(), kind.field_count(), out, to)
 }
 
 // A space, and what the head or a mark holds.
