@@ -141,31 +141,32 @@ fn with_sheet(
 
 fn of_bytes_number(
     keyword: usize,
+    frame: Frame,
     part: Part,
     entry: usize,
     line: &[u8],
     out: &mut [u8],
     at: usize,
-) -> usize {
+) -> Answered {
     let mut bytes = [0u8; 4096];
     let n = digits::bytes(text(line, part), &mut bytes);
-    with_sheet(keyword, &bytes[..n], entry, line, out, at)
+    let to = with_sheet(keyword, &bytes[..n], entry, line, out, at);
+    Answered { frame, at: to }
+}
+
+fn bad_line(frame: Frame, out: &mut [u8], at: usize) -> Answered {
+    let to = put_bad_line(out, at);
+    Answered { frame, at: to }
 }
 
 fn of_call(call: Call, frame: Frame, line: &[u8], out: &mut [u8], at: usize) -> Answered {
     match call {
         Call::Silent => Answered { frame, at },
-        Call::BadLine => Answered {
-            frame,
-            at: put_bad_line(out, at),
-        },
+        Call::BadLine => bad_line(frame, out, at),
         Call::OfHead(k, h) => of_head(k, frame, h, line, out, at),
         Call::OfHeadNumber(k, h, n) => of_head_number(k, frame, h, n, line, out, at),
         Call::OfBytes(k, b) => of_bytes(k, frame, b, line, out, at),
-        Call::OfBytesNumber(k, b, n) => Answered {
-            frame,
-            at: of_bytes_number(k, b, n, line, out, at),
-        },
+        Call::OfBytesNumber(k, b, n) => of_bytes_number(k, frame, b, n, line, out, at),
         Call::OfRun(h, form, i, o) => of_run(frame, h, form, i, o, line, out, at),
         Call::OfTwo(h, form, i, o, p) => of_two(frame, h, form, i, o, p, line, out, at),
     }
