@@ -1,3 +1,4 @@
 pub mod Passes
 pub mod Horner
 pub mod Refusals
+pub mod Rows

@@ -3,3 +3,4 @@ pub mod Mode
 pub mod Series
 pub mod Buffer
 pub mod Refusal
+pub mod Rows

@@ -4,6 +4,7 @@
 ghost use mathlib.Core.Path.{_≡_};
 ghost use Prim.Native.Nat.{min};
 ghost use Rattle.filter_core.specs.Mode.{byMode};
+ghost use Rattle.filter_core.specs.Rows.{_then_, RefusalsByRows};
 ghost use Rattle.filter_core.specs.Refusal.{stepRefusal, frequencyRefusal};
 ghost use Rattle.filter_core.specs.Series.{horner};
 
@@ -22,6 +23,13 @@ pub enum FrequencyApproximation {
 }
 
 // The number that a stride or a decimation gets: 10 for 0, or 0.
+// The first refusal of two; 0 is none.
+pub fn then(a: u8, b: u8) -> u8
+    ensures { λ r. ⌜ r ≡ (a then b) ⌝ }
+{
+    if a == 0 { b } else { a }
+}
+
 pub fn step_refusal(step: usize) -> u8
     ensures { λ r. ⌜ r ≡ stepRefusal step ⌝ }
 {
@@ -81,3 +89,8 @@ pub fn series(y: f32, row: &[f32]) -> f32
     }
     sum
 }
+
+// 10 and 11 are answered each in its row's case of the refusal table, and in no other.
+pub fn refusals_by_rows()
+    ensures { λ _. ⌜ RefusalsByRows ⌝ }
+{}

@@ -8,8 +8,8 @@ use borrow.Author.Tests.{ltb-true, ltb-false, leb-true, leb-false}
 use lib.Dec.{ltb, leb}
 use lib.ListN.{length}
 use lib.Ieee.{Float}
-use Rattle.words.specs.Rows.{First, none, here, later}
-use Rattle.words.proofs.Rows.{exactly}
+use Rattle.filter_core.specs.Rows.{First, none, here, later}
+use Rattle.filter_core.proofs.Rows.{exactly}
 use Rattle.sheets.specs.Sheet.{entriesOf}
 use Rattle.sheets.proofs.Rows.{checked}
 use Rattle.library.specs.Library.{libraryOf}

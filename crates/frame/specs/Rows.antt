@@ -5,7 +5,7 @@ use mathlib.Core.Path.{_≡_}
 use mathlib.Core.List.{List, [], _∷_}
 use lib.ListN.{length}
 use lib.Ieee.{Float}
-use Rattle.words.specs.Rows.{Only, Exactly}
+use Rattle.filter_core.specs.Rows.{Only, Exactly}
 use Rattle.sheets.specs.Sheet.{entriesOf}
 use Rattle.sheets.specs.Rows.{SheetRow}
 use Rattle.library.specs.Rows.{WriteCase}

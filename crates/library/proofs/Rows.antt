@@ -7,8 +7,8 @@ use native.Mathlib.Omega.{arith}
 use borrow.Author.Needs.{needs}
 use borrow.Author.Tests.{lt-ltb, le-ltb, eq-eqb, ne-eqb}
 use lib.ListN.{length}
-use Rattle.words.specs.Rows.{First, none, here, later}
-use Rattle.words.proofs.Rows.{below, exactly}
+use Rattle.filter_core.specs.Rows.{First, none, here, later}
+use Rattle.filter_core.proofs.Rows.{below, exactly}
 use Rattle.library.specs.Library.{writeRefusal}
 use Rattle.library.specs.Rows.{nothing, of-sheet, WriteCase, no-entries, short, WriteRow, WriteByRows}
 use Rattle.library.specs.declared.Library.{Library}

@@ -12,7 +12,7 @@ use lib.ListN.{length, take, length-append}
 use lib.Seq.{length-take-le}
 use Rattle.words.specs.Over.{over}
 use Rattle.words.proofs.Copies.{over-append, over-front}
-use Rattle.words.proofs.Rows.{below}
+use Rattle.filter_core.proofs.Rows.{below}
 use Rattle.library.specs.Library.{zeroBytes, bytesOf, writeRefusal, writtenLength, writeOf, writtenOf}
 use Rattle.library.specs.declared.Library.{Library}
 use Rattle.library.specs.declared.Written.{Written}

@@ -3,7 +3,7 @@ use Prim.Native.Nat.{ℕ, _+_, _*_, _<_}
 use mathlib.Core.Path.{_≡_}
 use mathlib.Core.List.{List, [], _∷_}
 use lib.ListN.{length}
-use Rattle.words.specs.Rows.{Exactly}
+use Rattle.filter_core.specs.Rows.{Exactly}
 use Rattle.sheets.specs.Sheet.{entriesOf}
 use Rattle.sheets.specs.Rows.{Sheet}
 use Rattle.library.specs.Library.{none, libraryOf, writeOf}

@@ -5,8 +5,8 @@ use mathlib.Core.Bool.{Bool, true, false}
 use mathlib.Core.List.{[], _∷_}
 use native.Mathlib.Omega.{arith}
 use lib.Dec.{eqb·suc-zero}
-use Rattle.words.specs.Rows.{First, none, here, later}
-use Rattle.words.proofs.Rows.{exactly}
+use Rattle.filter_core.specs.Rows.{First, none, here, later}
+use Rattle.filter_core.proofs.Rows.{exactly}
 use Rattle.any_filter.specs.declared.FilterType.{FilterType}
 use Rattle.any_filter.specs.declared.FilterType.the-variants.{DcBlocker, OnePole, Svf, NaiveSvf, ModifiedSvf, CrossoverSvf}
 use Rattle.runs.specs.Form.{isSvf, isNaive, hasForm, hasFormTwo, formRefusal, refusalIf}

@@ -2,7 +2,7 @@
 use Prim.Native.Nat.{ℕ}
 use mathlib.Core.List.{[], _∷_}
 use lib.Ieee.{Float}
-use Rattle.words.specs.Rows.{Exactly}
+use Rattle.filter_core.specs.Rows.{Exactly}
 use Rattle.filter_core.specs.declared.FilterMode.{FilterMode}
 use Rattle.any_filter.specs.declared.FilterType.{FilterType}
 use Rattle.any_filter.specs.declared.FilterType.the-variants.{DcBlocker, OnePole, Svf, NaiveSvf, ModifiedSvf, CrossoverSvf}

@@ -10,7 +10,7 @@ use borrow.Author.Needs.{needs}
 use borrow.Author.Tests.{eqb-true, eqb-false, eq-eqb, ne-eqb, lt-ltb, le-ltb}
 use lib.Dec.{eqb}
 use lib.ListN.{length, take, drop}
-use Rattle.words.proofs.Rows.{then-zero, none-then, some-then, below, same}
+use Rattle.filter_core.proofs.Rows.{then-zero, none-then, some-then, below, same}
 use Rattle.sheets.specs.Refusal.{firstRefusal}
 use Rattle.sheets.specs.Sheet.{entriesOf, Sized, settingAt, sizeRefusal, refusalAt, checkOf, entryNumberRefusal, checkEntryOf, lookupOf}
 

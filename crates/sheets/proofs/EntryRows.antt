@@ -8,9 +8,9 @@ use lib.Dec.{eqb, ltb}
 use lib.Ieee.{isNan}
 use Rattle.filter_core.specs.Arithmetic.{word}
 use Rattle.words.specs.Word.{writtenNan}
-use Rattle.words.specs.Rows.{_then_, here, later}
+use Rattle.filter_core.specs.Rows.{_then_, here, later}
 use Rattle.words.proofs.Words.{nan-test}
-use Rattle.words.proofs.Rows.{Step, yes, no, step-to, first-then, first-last}
+use Rattle.filter_core.proofs.Rows.{Step, yes, no, step-to, first-then, first-last}
 use Rattle.sheets.specs.Kind.{setterOf}
 use Rattle.sheets.specs.Refusal.{wordRefusal, wordsRefusal, entryRefusal}
 use Rattle.sheets.specs.Rows.{KindWrong, WordWrong, unused, another-nan, WordsWrong, wrong-a, wrong-b, wrong-c, FrequencyWrong, wordsUsed, EntryCase, wrong-kind, wrong-words, wrong-frequency, EntryRow}

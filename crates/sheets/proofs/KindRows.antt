@@ -9,7 +9,7 @@ use Rattle.filter_core.specs.Arithmetic.{word, zeroᶠ}
 use Rattle.filter_core.specs.Refusal.{frequencyRefusal}
 use Rattle.filter_core.specs.declared.FrequencyApproximation.{FrequencyApproximation}
 use Rattle.filter_core.specs.declared.FrequencyApproximation.the-variants.{Exact, Accurate, Fast, Dirty}
-use Rattle.words.proofs.Rows.{Step, no, step-if}
+use Rattle.filter_core.proofs.Rows.{Step, no, step-if}
 use Rattle.sheets.specs.Kind.{approximated, exact, setterFor, kindRefusal}
 use Rattle.sheets.specs.Refusal.{used, settingRefusal}
 use Rattle.sheets.specs.Rows.{KindWrong, no-kind, past-kinds, past-approximations, not-exact, wordsUsed, FrequencyWrong}

@@ -12,7 +12,7 @@ use lib.Seq.{getD-take, getD-drop}
 use Rattle.filter_core.specs.Arithmetic.{word}
 use Rattle.words.specs.Word.{wordFrom, writtenNan, otherNan}
 use Rattle.words.proofs.Words.{comes-back}
-use Rattle.words.proofs.Rows.{passed}
+use Rattle.filter_core.proofs.Rows.{passed}
 use Rattle.sheets.specs.Sheet.{entriesOf, settingAt, wordAt, entryIn}
 use Rattle.sheets.specs.Rows.{WordWrong, another-nan, WordsWrong, wrong-a, wrong-b, wrong-c, wordsUsed, wrong-words, EntryRow, Bytes, WordsReturn}
 

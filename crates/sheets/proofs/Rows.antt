@@ -9,7 +9,7 @@ use borrow.Author.Tests.{eqb-true, eqb-false, ne-eqb, ltb-true, ltb-false, lt-lt
 use lib.Dec.{eqb, ltb}
 use lib.ListN.{length, drop, length-drop}
 use lib.Seq.{length-take-le}
-use Rattle.words.proofs.Rows.{once, some-then}
+use Rattle.filter_core.proofs.Rows.{once, some-then}
 use Rattle.sheets.specs.Sheet.{entriesOf, entryIn, refusalAt, checkOf, entryNumberRefusal, checkEntryOf, lookupOf}
 use Rattle.sheets.specs.Rows.{EntryRow, Sheet, SheetRow, is-sheet, wrong-size, wrong-entry, LookupRow, is-found, no-sheet, no-entry, Checked}
 use Rattle.sheets.proofs.Checks.{Size, right, wrong, size-of, first-found, first-all, found}

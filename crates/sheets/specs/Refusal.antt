@@ -5,7 +5,7 @@ use lib.Dec.{eqb, ltb}
 use Rattle.filter_core.specs.Arithmetic.{word}
 use Rattle.filter_core.specs.Refusal.{frequencyRefusal}
 use Rattle.words.specs.Word.{otherNan}
-use Rattle.words.specs.Rows.{_then_}
+use Rattle.filter_core.specs.Rows.{_then_}
 use Rattle.sheets.specs.Kind.{setterOf, kindRefusal}
 use Rattle.sheets.specs.declared.entry.Entry.{Entry}
 use Rattle.sheets.specs.declared.setter.Setter.{Setter}

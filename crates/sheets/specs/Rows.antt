@@ -8,7 +8,7 @@ use mathlib.Core.Logic.{_⊎_}
 use lib.Ieee.{binary32, isNan, lt, toBits}
 use lib.ListN.{length, getD}
 use Rattle.filter_core.specs.Arithmetic.{word, zeroᶠ}
-use Rattle.words.specs.Rows.{First, Only}
+use Rattle.filter_core.specs.Rows.{First, Only}
 use Rattle.sheets.specs.Sheet.{entriesOf, Sized, entryIn, wordAt, checkOf, checkEntryOf, lookupOf}
 use Rattle.sheets.specs.declared.entry.Entry.{Entry}
 

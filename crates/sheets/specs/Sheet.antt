@@ -6,7 +6,7 @@ use mathlib.Core.List.{List, []}
 use lib.Dec.{eqb, ltb}
 use lib.ListN.{length, getD, take, drop}
 use Rattle.words.specs.Word.{wordFrom}
-use Rattle.words.specs.Rows.{_then_}
+use Rattle.filter_core.specs.Rows.{_then_}
 use Rattle.sheets.specs.Refusal.{firstRefusal, entryRefusal}
 use Rattle.sheets.specs.declared.entry.Entry.{Entry}
 

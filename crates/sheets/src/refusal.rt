@@ -81,7 +81,7 @@ fn words_refusal(used: u8, entry: Entry) -> u8
     let first = word_refusal(used, 0, entry.a);
     let second = word_refusal(used, 1, entry.b);
     let third = word_refusal(used, 2, entry.c);
-    words::then(first, words::then(second, third))
+    filter_core::then(first, filter_core::then(second, third))
 }
 
 fn entry_refusal(entry: Entry) -> u8
@@ -91,7 +91,7 @@ fn entry_refusal(entry: Entry) -> u8
     let kind = kind_refusal(setter);
     let words = words_refusal(words_used(setter), entry);
     let setting = setting_refusal(setter, entry.a);
-    words::then(kind, words::then(words, setting))
+    filter_core::then(kind, filter_core::then(words, setting))
 }
 
 fn wide(b: u8) -> usize
@@ -174,7 +174,7 @@ fn number_refusal(n: usize, e: usize) -> u8
 pub fn check_entry(sheet: &[u8], e: usize) -> u8
     ensures { λ r. ⌜ r ≡ checkEntryOf (now (sheet .entry)) e ⌝ }
 {
-    words::then(check(sheet), number_refusal(entries(sheet), e))
+    filter_core::then(check(sheet), number_refusal(entries(sheet), e))
 }
 
 // The setting of entry e as a part of the sheet; empty where `check_entry` refuses.

@@ -1,3 +1,2 @@
 pub mod Words
 pub mod Copies
-pub mod Rows

@@ -1,11 +1,9 @@
-// Words of 32 bits: from bytes, low byte first, and to binary32 and back. With them what others build on: bytes copied, and the order of refusals.
+// Words of 32 bits: from bytes, low byte first, and to binary32 and back. And bytes copied.
 // All NaNs are one value here, so of the NaN patterns only one comes back from binary32: the one that `other_nan` lets pass.
 
 mod over;
-mod refusal;
 
 pub use over::copy;
-pub use refusal::then;
 ghost use mathlib.Core.Path.{_≡_};
 ghost use Prim.Native.Nat.{_+_};
 ghost use lib.Ieee.{binary32, ofBits, toBits};

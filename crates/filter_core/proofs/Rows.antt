@@ -7,7 +7,13 @@ use mathlib.Core.Logic.{_⊎_, inl, inr}
 use borrow.Author.Needs.{needs}
 use borrow.Author.Tests.{eqb-true, eqb-false, eq-eqb, ne-eqb, ltb-true, ltb-false}
 use lib.Dec.{eqb, ltb}
-use Rattle.words.specs.Rows.{_then_, First, none, here, later, Exactly}
+use lib.Ieee.{Float, lt}
+use native.Mathlib.Omega.{arith}
+use Rattle.filter_core.specs.Arithmetic.{zeroᶠ}
+use Rattle.filter_core.specs.Refusal.{frequencyRefusal}
+use Rattle.filter_core.specs.Rows.{_then_, First, none, here, later, Exactly, StepCase, no-step, FrequencyCase, below-zero, RefusalsByRows}
+use Rattle.filter_core.specs.declared.FrequencyApproximation.{FrequencyApproximation}
+use Rattle.filter_core.specs.declared.FrequencyApproximation.the-variants.{Exact, Accurate, Fast, Dirty}
 
 -- ---- two numbers, decided
 
@@ -88,3 +94,24 @@ first-then d (no q) f = later q (f q)
 pub first-last : {case : ℕ → Type 0} {n x : ℕ} → Step (case n) n x → First case (n ∷ []) x
 first-last (yes p) = here p
 first-last (no q) = later q none
+
+-- ---- the rows of the filter calls
+
+step-there : {d : ℕ} → (d ≡ 0 → ⊥) → StepCase d 10 → ⊥
+step-there z (no-step e) = z e
+
+not-below : {f : Float} → lt f zeroᶠ ≡ false → FrequencyCase f Exact 11 → ⊥
+not-below {f} e (below-zero p) = let z : _≡_ {A = ℕ} 0 1 = cc in omega arith
+
+by-frequency : (f : Float) (a : FrequencyApproximation) → First (FrequencyCase f a) (11 ∷ []) (frequencyRefusal f a)
+by-frequency f Exact = first-last (step-if 11 (lt f zeroᶠ) below-zero not-below)
+by-frequency f Accurate = later {n = 11} (elim [ ]) none
+by-frequency f Fast = later {n = 11} (elim [ ]) none
+by-frequency f Dirty = later {n = 11} (elim [ ]) none
+
+pub refusals-by-rows : RefusalsByRows
+refusals-by-rows =
+    record {
+      step = λ d. exactly (first-last (step-if 10 (eqb d 0) (λ e. no-step (eqb-true d 0 e)) (λ e. step-there (eqb-false d 0 e))));
+      frequency = λ f a. exactly (by-frequency f a);
+    }

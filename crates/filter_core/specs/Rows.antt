@@ -1,9 +1,14 @@
 -- The refusal table of document 01: a call answers the first of its numbers whose case holds, and no other.
 use Prim.Native.Nat.{ℕ}
 use mathlib.Core.Path.{_≡_}
-use mathlib.Core.Bool.{cond}
+use mathlib.Core.Bool.{true, cond}
 use mathlib.Core.List.{List, [], _∷_}
 use lib.Dec.{eqb}
+use lib.Ieee.{Float, lt}
+use Rattle.filter_core.specs.Arithmetic.{zeroᶠ}
+use Rattle.filter_core.specs.Refusal.{stepRefusal, frequencyRefusal}
+use Rattle.filter_core.specs.declared.FrequencyApproximation.{FrequencyApproximation}
+use Rattle.filter_core.specs.declared.FrequencyApproximation.the-variants.{Exact}
 
 -- the first refusal of two; 0 is none
 infixr 20 _then_
@@ -24,3 +29,17 @@ pub record Only (row : ℕ → Type 0) (number : ℕ) : Type 0 where
 -- the number is the first of the list `order` whose case holds, and no other is
 abbrev pub Exactly : (ℕ → Type 0) → List ℕ → ℕ → Type 0
 Exactly case order number = Only (First case order) number
+
+-- ---- the rows of the filter calls
+
+-- 10: a stride or a decimation of 0
+pub data StepCase (d : ℕ) : ℕ → Type 0 where
+  no-step : d ≡ 0 → StepCase d 10
+
+-- 11: a frequency below 0 in Exact
+pub data FrequencyCase (f : Float) : FrequencyApproximation → ℕ → Type 0 where
+  below-zero : lt f zeroᶠ ≡ true → FrequencyCase f Exact 11
+
+pub record RefusalsByRows : Type 0 where
+  pub step : (d : ℕ) → Exactly (StepCase d) (10 ∷ []) (stepRefusal d)
+  pub frequency : (f : Float) (a : FrequencyApproximation) → Exactly (FrequencyCase f a) (11 ∷ []) (frequencyRefusal f a)
