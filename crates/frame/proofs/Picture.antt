@@ -8,7 +8,6 @@ use borrow.Author.Tests.{ltb-true, ltb-false, leb-false, le-ltb, eqb-true}
 use lib.ListN.{length, getD, take, set, length-append, length-take, List·getD-eq-default}
 use lib.Seq.{length-take-le, getD-take}
 use lib.Dec.{eqb, leb, ltb, eqb·suc-suc, eqb·zero-suc, eqb·suc-zero}
-use Rattle.filter_core.specs.Buffer.{within}
 use Rattle.sheets.specs.Sheet.{entriesOf, checkOf}
 use Rattle.sheets.specs.declared.entry.Entry.{Entry}
 use Rattle.library.specs.Library.{libraryOf, writeOf}
@@ -19,11 +18,11 @@ use Rattle.any_filter.specs.declared.Filter.{Filter}
 use Rattle.runs.specs.Form.{runRefusal, runTwoRefusal}
 use Rattle.loads.specs.Load.{filterOf}
 use Rattle.frame.specs.Table.{table}
-use Rattle.frame.specs.Call.{Act, load, run, runTwo, rest, mark, back, drop, Call, opening, writing, at, answered, refusedAct, refused}
-use Rattle.frame.specs.Calls.{emptySnapshot, noHead, headAt, withHead, holding, holds, Turn, refuse, accept, unless, onFilter, marksBelow, onlyIf, backHead, dropHead, atMark, turn, settled, atHead, perform}
+use Rattle.frame.specs.Call.{Act, load, run, runTwo, rest, mark, back, drop, Call, opening, writing, at, answered, refused}
+use Rattle.frame.specs.Calls.{emptySnapshot, noHead, holding, holds, Turn, refuse, accept, unless, onFilter, marksBelow, onlyIf, backHead, dropHead, atMark, turn, settled, perform}
 use Rattle.frame.specs.History.{Event, HeadHistory, Histories, lastType, unlessBare, actNumber, callNumber, grownBy, changedAt, grown, advance, snapshotFrom, snapshotOf, acceptedAct, accepted, replyTo}
 use Rattle.frame.proofs.Tables.{getD-table, table-ext, set-table}
-use Rattle.frame.proofs.Sound.{snapshot-snoc, Fits, bare, held, Good, SoundHead, SoundSheet, Sound}
+use Rattle.frame.proofs.Sound.{snapshot-snoc, Fits, bare, held, SoundHead, SoundSheet, Sound}
 use Rattle.frame.specs.declared.Slot.{Slot}
 use Rattle.frame.specs.declared.Slot.the-variants.{Empty, Holds}
 use Rattle.frame.specs.declared.Head.{Head}

@@ -1,7 +1,7 @@
 -- What holds of every history that calls make: the filter that it leads to is of the type that it names, and no head has more than four
 -- checkpoints. Assumes nothing.
 use Prim.Native.Nat.{ℕ, zero, suc, _+_, _≤_, _<_}
-use mathlib.Core.Path.{_≡_, refl, ap, sym, _∙_}
+use mathlib.Core.Path.{_≡_, refl, sym, _∙_}
 use mathlib.Core.Bool.{Bool, true, false, cond}
 use mathlib.Core.List.{List, [], _∷_, _++_}
 use native.Mathlib.Omega.{arith}
@@ -13,7 +13,7 @@ use Rattle.filter_core.specs.Buffer.{within}
 use Rattle.sheets.specs.Sheet.{entriesOf, entryIn, checkOf}
 use Rattle.sheets.specs.declared.entry.Entry.{Entry}
 use Rattle.sheets.proofs.Rows.{check-sheet}
-use Rattle.library.specs.Library.{libraryOf, entryAt, writeOf}
+use Rattle.library.specs.Library.{libraryOf, entryAt}
 use Rattle.library.specs.Rows.{Held, nothing, of-sheet}
 use Rattle.library.proofs.RoundTrip.{same-entries, no-sheet}
 use Rattle.any_filter.specs.Cases.{typeOf, rested}
@@ -23,9 +23,8 @@ use Rattle.any_filter.specs.declared.Filter.{Filter}
 use Rattle.any_filter.specs.declared.Filter.the-variants.{Dc, OnePole, Svf, Naive, Modified, Crossover}
 use Rattle.runs.specs.Run.{through}
 use Rattle.runs.specs.declared.RunForm.{RunForm}
-use Rattle.loads.specs.Load.{filterOf}
 use Rattle.frame.specs.Call.{Act, load, run, runTwo, rest, mark, back, drop, Call, opening, writing, at}
-use Rattle.frame.specs.History.{Event, loadEvent, runEvent, restEvent, HeadHistory, Histories, noHistories, typeWith, typeFrom, lastType, unlessBare, actNumber, callNumber, adding, grownBy, changedAt, grown, advance, advanceAll, slotWith, snapshotWith, snapshotFrom, snapshotOf}
+use Rattle.frame.specs.History.{Event, loadEvent, runEvent, restEvent, HeadHistory, Histories, noHistories, typeWith, typeFrom, lastType, unlessBare, actNumber, callNumber, grownBy, grown, advance, advanceAll, slotWith, snapshotWith, snapshotFrom, snapshotOf}
 use Rattle.frame.specs.declared.Slot.{Slot}
 use Rattle.frame.specs.declared.Slot.the-variants.{Empty, Holds}
 use Rattle.frame.specs.declared.Snapshot.{Snapshot}
