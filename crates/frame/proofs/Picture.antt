@@ -19,8 +19,8 @@ use Rattle.runs.specs.Form.{runRefusal, runTwoRefusal}
 use Rattle.loads.specs.Load.{filterOf}
 use Rattle.frame.specs.Table.{table}
 use Rattle.frame.specs.Call.{Act, load, run, runTwo, rest, mark, back, drop, Call, opening, writing, at, answered, refused}
-use Rattle.frame.specs.Calls.{emptySnapshot, noHead, holding, holds, Turn, refuse, accept, unless, onFilter, marksBelow, onlyIf, backHead, dropHead, atMark, turn, settled, perform}
-use Rattle.frame.specs.History.{Event, HeadHistory, Histories, lastType, unlessBare, actNumber, callNumber, grownBy, changedAt, grown, advance, snapshotFrom, snapshotOf, acceptedAct, accepted, replyTo}
+use Rattle.frame.specs.Calls.{emptySnapshot, noHead, holding, holds, Turn, refuse, accept, unless, onFilter, lastMark, marksBelow, onlyIf, backHead, dropHead, atMark, turn, settled, perform}
+use Rattle.frame.specs.History.{Event, HeadHistory, Histories, lastType, unlessBare, markRefusal, actNumber, callNumber, grownBy, changedAt, grown, advance, snapshotFrom, snapshotOf, acceptedAct, accepted, replyTo}
 use Rattle.frame.proofs.Tables.{getD-table, table-ext, set-table}
 use Rattle.frame.proofs.Sound.{snapshot-snoc, Fits, bare, held, SoundHead, SoundSheet, Sound}
 use Rattle.frame.specs.declared.Slot.{Slot}
@@ -123,8 +123,8 @@ module _ (s : List ℕ) (x : HeadHistory) (S : SoundHead x) where
       on-filter (x .history) (snapshotOf (x .history) .slot) (λ k. runTwoRefusal k form) _ _ (S .good) (λ f e. rw (snapshot-snoc, e) refl)
   act-turn rest sound = on-filter (x .history) (snapshotOf (x .history) .slot) (λ k. 0) _ _ (S .good) (λ f e. rw (snapshot-snoc, e) refl)
   act-turn mark sound =
-      on-filter (x .history) (snapshotOf (x .history) .slot) (λ k. cond (ltb 3 (length (x .checkpoints))) 8 0) _ _ (S .good)
-      (λ f e. rw (length-append, ← marks-snoc (x .checkpoints) (x .history)) (numbered (ltb 3 (length (x .checkpoints))) 8 _ refl))
+      on-filter (x .history) (snapshotOf (x .history) .slot) (λ k. markRefusal x) _ _ (S .good)
+      (λ f e. rw (length-append, ← marks-snoc (x .checkpoints) (x .history)) (numbered (ltb lastMark (length (x .checkpoints))) 8 _ refl))
   act-turn (back m) sound = there x m (S .four) (back-pictured m)
   act-turn (drop m) sound = there x m (S .four) (drop-pictured m)
 

@@ -127,14 +127,14 @@ goods-take (suc n) (x ∷ r) g (suc m) = goods-take n r (λ i. g (suc i)) m
 
 -- ---- an accepted call keeps its head sound
 
--- a mark is accepted only below four
-below-four : (l : List Event) (n : ℕ) → unlessBare l (cond (ltb 3 n) 8 0) ≡ 0 → n ≤ 3
-below-four [] n e = absurd (omega arith)
-below-four (i ∷ l) n e = go (ltb 3 n) refl e
+-- a mark is accepted only up to a limit
+up-to : (k n r : ℕ) (l : List Event) → unlessBare l (cond (ltb k n) (suc r) 0) ≡ 0 → n ≤ k
+up-to k n r [] e = absurd (omega arith)
+up-to k n r (i ∷ l) e = go (ltb k n) refl e
   where
-    go : (b : Bool) → ltb 3 n ≡ b → cond {A = ℕ} b 8 0 ≡ 0 → n ≤ 3
+    go : (b : Bool) → ltb k n ≡ b → cond {A = ℕ} b (suc r) 0 ≡ 0 → n ≤ k
     go true q e = absurd (omega arith)
-    go false q e = ltb-false 3 n q
+    go false q e = ltb-false k n q
 
 sound-grown : (s : List ℕ) (x : HeadHistory) (a : Act) → SoundHead x → actNumber s x a ≡ 0 → SoundHead (grownBy s x a)
 sound-grown s x (load e) S q = record { good = good-load (x .history) (entryIn s e); goods = S .goods; four = S .four }
@@ -146,7 +146,7 @@ sound-grown s x mark S q =
     record {
       good = S .good;
       goods = goods-snoc (x .checkpoints) (x .history) (S .goods) (S .good);
-      four = omega (arith, length-append (x .checkpoints) (x .history ∷ []), below-four (x .history) (length (x .checkpoints)) q);
+      four = omega (arith, length-append (x .checkpoints) (x .history ∷ []), up-to _ (length (x .checkpoints)) _ (x .history) q);
     }
 sound-grown s x (back m) S q =
     record { good = S .goods m; goods = goods-take (m + 1) (x .checkpoints) (S .goods); four = omega (arith, length-take (m + 1) (x .checkpoints), S .four) }
