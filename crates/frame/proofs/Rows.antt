@@ -19,7 +19,7 @@ use Rattle.runs.specs.declared.RunForm.{RunForm}
 use Rattle.runs.proofs.Rows.{by-rows}
 use Rattle.frame.specs.Call.{Act, load, run, runTwo, rest, mark, back, drop, Call, opening, writing, at}
 use Rattle.frame.specs.History.{Event, HeadHistory, Histories, noHistories, lastType, unlessBare, actNumber, callNumber, advanceAll}
-use Rattle.frame.specs.Rows.{ActCase, no-head, no-entry, bare-run, bare-two, bare-rest, bare-mark, no-back, no-drop, full, no-form, no-form-two, no-step, no-step-two, order, Row, NumbersByRows}
+use Rattle.frame.specs.Rows.{ActCase, no-head, no-entry, bare-run, bare-two, bare-rest, bare-mark, no-back, no-drop, full, no-form, no-form-two, no-step, no-step-two, numbersOf, Row, NumbersByRows}
 use Rattle.frame.proofs.Sound.{SoundHead, Sound, sound-all, sound-none}
 
 module _ {case : ℕ → Type 0} {ns : List ℕ} {r : ℕ} where
@@ -91,21 +91,11 @@ module _ {s : List ℕ} {h : ℕ} {x : HeadHistory} where
 
 -- ---- each call at a head
 
--- the numbers after 1
-abbrev rest-of : Act → List ℕ
-rest-of (load e) = 5 ∷ []
-rest-of (run form us ys) = 6 ∷ 9 ∷ 10 ∷ []
-rest-of (runTwo form us ys zs) = 6 ∷ 9 ∷ 10 ∷ []
-rest-of rest = 6 ∷ []
-rest-of mark = 6 ∷ 8 ∷ []
-rest-of (back m) = 7 ∷ []
-rest-of (drop m) = 7 ∷ []
-
 module _ (s : List ℕ) (h : ℕ) (x : HeadHistory) (S : SoundHead x) where
   four : ltb 3 (length (x .checkpoints)) ≡ true → length (x .checkpoints) ≡ 4
   four q = omega (arith, S .four, ltb-true 3 (length (x .checkpoints)) q)
 
-  by-act : (a : Act) → First (ActCase s h x a) (rest-of a) (actNumber s x a)
+  by-act : (a : Act) → First (ActCase s h x a) (numbersOf a) (actNumber s x a)
   by-act (load e) = by-test (leb (entriesOf s) e) (λ q. no-entry (leb-true _ _ q)) (λ q. entry-there (leb-false _ _ q)) none
   by-act (run form us ys) = by-history (x .history) bare-run held-run (by-run (by-rows .one (lastType (x .history)) form .is))
   by-act (runTwo form us ys zs) = by-history (x .history) bare-two held-two (by-run-two (by-rows .two (lastType (x .history)) form .is))
@@ -115,23 +105,14 @@ module _ (s : List ℕ) (h : ℕ) (x : HeadHistory) (S : SoundHead x) where
   by-act (back m) = by-test (leb (length (x .checkpoints)) m) (λ q. no-back (leb-true _ _ q)) (λ q. back-there (leb-false _ _ q)) none
   by-act (drop m) = by-test (leb (length (x .checkpoints)) m) (λ q. no-drop (leb-true _ _ q)) (λ q. drop-there (leb-false _ _ q)) none
 
-  by-head : (a : Act) → order a ≡ 1 ∷ rest-of a → First (ActCase s h x a) (order a) (cond (ltb 11 h) 1 (actNumber s x a))
-  by-head a e = rw e (by-test (ltb 11 h) (λ q. no-head (ltb-true 11 h q)) (λ q. head-there (ltb-false 11 h q)) (by-act a))
-
-in-order : (a : Act) → order a ≡ 1 ∷ rest-of a
-in-order (load e) = refl
-in-order (run form us ys) = refl
-in-order (runTwo form us ys zs) = refl
-in-order rest = refl
-in-order mark = refl
-in-order (back m) = refl
-in-order (drop m) = refl
+  by-head : (a : Act) → First (ActCase s h x a) (1 ∷ numbersOf a) (cond (ltb 11 h) 1 (actNumber s x a))
+  by-head a = by-test (ltb 11 h) (λ q. no-head (ltb-true 11 h q)) (λ q. head-there (ltb-false 11 h q)) (by-act a)
 
 row : (H : Histories) (c : Call) → Sound H → Row H c (callNumber H c)
 unfolding callNumber
 row H (opening s) S = checked s .sheets
 row H (writing out) S = write-by-rows (libraryOf (H .sheet)) (entriesOf (H .sheet)) (S .sheet .held) out .number
-row H (at h a) S = exactly (by-head (H .sheet) h (H .heads h) (S .each h) a (in-order a))
+row H (at h a) S = exactly (by-head (H .sheet) h (H .heads h) (S .each h) a)
 
 pub numbers-by-rows : NumbersByRows
 unfolding NumbersByRows

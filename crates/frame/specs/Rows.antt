@@ -37,21 +37,21 @@ pub data ActCase (s : List ℕ) (h : ℕ) (x : HeadHistory) : Act → ℕ → Ty
   no-step : {form : RunForm} {us ys : List Float} → StepOfZero form → ActCase s h x (run form us ys) 10
   no-step-two : {form : RunForm} {us ys zs : List Float} → StepOfZero form → ActCase s h x (runTwo form us ys zs) 10
 
--- the order in which a call asks for its numbers
-abbrev pub order : Act → List ℕ
-order (load e) = 1 ∷ 5 ∷ []
-order (run form us ys) = 1 ∷ 6 ∷ 9 ∷ 10 ∷ []
-order (runTwo form us ys zs) = 1 ∷ 6 ∷ 9 ∷ 10 ∷ []
-order rest = 1 ∷ 6 ∷ []
-order mark = 1 ∷ 6 ∷ 8 ∷ []
-order (back m) = 1 ∷ 7 ∷ []
-order (drop m) = 1 ∷ 7 ∷ []
+-- the numbers that a call at a head asks for, in order, after that of the head
+abbrev pub numbersOf : Act → List ℕ
+numbersOf (load e) = 5 ∷ []
+numbersOf (run form us ys) = 6 ∷ 9 ∷ 10 ∷ []
+numbersOf (runTwo form us ys zs) = 6 ∷ 9 ∷ 10 ∷ []
+numbersOf rest = 6 ∷ []
+numbersOf mark = 6 ∷ 8 ∷ []
+numbersOf (back m) = 7 ∷ []
+numbersOf (drop m) = 7 ∷ []
 
 -- A sheet and a write have rows of their own, below the frame.
 abbrev pub Row : Histories → Call → ℕ → Type 0
 Row H (opening s) n = Only (SheetRow s) n
 Row H (writing out) n = Exactly (WriteCase (entriesOf (H .sheet)) (length out)) (2 ∷ 12 ∷ []) n
-Row H (at h a) n = Exactly (ActCase (H .sheet) h (H .heads h) a) (order a) n
+Row H (at h a) n = Exactly (ActCase (H .sheet) h (H .heads h) a) (1 ∷ numbersOf a) n
 
 -- after any calls on a fresh frame, a call's number is that of its row
 unfoldable pub NumbersByRows : Type 0
