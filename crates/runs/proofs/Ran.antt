@@ -4,6 +4,7 @@ use mathlib.Core.Path.{_≡_, refl, ap, _∙_}
 use mathlib.Core.Bool.{Bool, true, false}
 use mathlib.Core.List.{List, [], _∷_}
 use borrow.Author.Needs.{needs}
+use borrow.Author.Tests.{ne-eqb}
 use lib.Dec.{eqb}
 use lib.Ieee.{Float}
 use Rattle.filter_core.specs.Buffer.{Filtered, each, puts, eachDue, putsDue}
@@ -45,8 +46,8 @@ module _ {S : Type 0} {of : S → Filter} {next : ℕ → S → Float → S} {pu
       go true q = let p = rw q at (a .filtered) in rw q (record { filter-is = e ∙ ap of (p .state); output-is = p .buffer })
       go false q = let p = rw q at (a .filtered) in rw q (record { filter-is = e ∙ ap of (p .state); output-is = p .buffer })
 
-left : {S : Type 0} {of : S → Filter} {form : Form S} {s : S} {us ys : List Float} {r : Filter} {n : ℕ} → n ≡ 9 → r ≡ of s → RanBy of n form s us ys r ys
-left q e = rw q (record { filter-is = e; output-is = refl })
+left : {S : Type 0} {of : S → Filter} {form : Form S} {s : S} {us ys : List Float} {r : Filter} {n : ℕ} → (n ≡ 0 → ⊥) → r ≡ of s → RanBy of n form s us ys r ys
+left {n = n} q e = let t = ne-eqb n 0 q in record { filter-is = rw t e; output-is = rw t refl }
 
 -- ---- each type's forms
 

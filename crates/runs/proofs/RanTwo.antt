@@ -5,6 +5,7 @@ use mathlib.Core.List.{List, [], _∷_}
 use types.Run.{OneOf}
 use denote.Enum.Declared
 use borrow.Author.Needs.{needs}
+use borrow.Author.Tests.{ne-eqb}
 use lib.Ieee.{Float}
 use Rattle.filter_core.specs.Buffer.{Filtered, each, puts}
 use Rattle.filter_core.specs.declared.FilterMode.{FilterMode}
@@ -27,8 +28,8 @@ ran-two : {S : Type 0} {of : S → Filter} {next : S → Float → S} {a b : S �
     → Filtered (each next) (puts a) s us ys t ys′ → Filtered (each next) (puts b) s us zs t zs′ → r ≡ of t → RanTwoBy of 0 (twoOutputs next a b) s us ys zs r ys′ zs′
 ran-two {of = of} p q e = record { filter-is = e ∙ ap of (p .state); first-is = p .buffer; second-is = q .buffer }
 
-left-two : {S : Type 0} {of : S → Filter} {form : Form S} {s : S} {us ys zs : List Float} {r : Filter} {n : ℕ} → n ≡ 9 → r ≡ of s → RanTwoBy of n form s us ys zs r ys zs
-left-two q e = rw q (record { filter-is = e; first-is = refl; second-is = refl })
+left-two : {S : Type 0} {of : S → Filter} {form : Form S} {s : S} {us ys zs : List Float} {r : Filter} {n : ℕ} → (n ≡ 0 → ⊥) → r ≡ of s → RanTwoBy of n form s us ys zs r ys zs
+left-two {n = n} q e = let t = ne-eqb n 0 q in record { filter-is = rw t e; first-is = rw t refl; second-is = rw t refl }
 
 module _ (form : RunForm) (us ys zs : List Float) (r : Filter) where
   module _ (ys′ zs′ : List Float) where
@@ -68,7 +69,7 @@ module _ (f : Filter) (form : RunForm) (us ys zs : List Float) where
     naive-case-two g damp lp bp e p = rw e (record { filter-is = p .filter-is; first-is = p .first-is; second-is = p .second-is })
 
   pub other-case-two : OneOf (0 ∷ 1 ∷ 4 ∷ 5 ∷ []) (Declared.tagOf filter-type.the-type f) → RanTwo f form us ys zs f ys zs
-  other-case-two h = let q = no-two f h form in record { filter-is = rw q refl; first-is = rw q refl; second-is = rw q refl }
+  other-case-two h = let q = ne-eqb _ 0 (no-two f h form) in record { filter-is = rw q refl; first-is = rw q refl; second-is = rw q refl }
 
 -- what `search` is handed at each return
 pub ruleset running-two = (svf-gains, svf-pair, naive-split, svf-left-two, naive-left-two, svf-case-two, naive-case-two, other-case-two, needs)
