@@ -4,12 +4,12 @@ use mathlib.Core.Path.{_≡_, refl, sym, ap, _∙_}
 use mathlib.Core.List.{List}
 use borrow.Author.Needs.{needs}
 use borrow.Author.Tests.{lt-ltb, le-ltb, le-leb, lt-leb}
-use lib.ListN.{getD, replicate}
+use lib.ListN.{replicate}
 use lib.Ieee.{Float}
 use Rattle.filter_core.specs.Buffer.{within}
 use Rattle.filter_core.proofs.Refusals.{refusing, accepting}
 use Rattle.sheets.specs.declared.entry.Entry.{Entry}
-use Rattle.library.specs.Library.{none, readOf, entryAt, writeOf, writtenOf}
+use Rattle.library.specs.Library.{none, readOf, writeOf, writtenOf}
 use Rattle.library.specs.declared.Library.{Library}
 use Rattle.library.specs.declared.Reading.{Reading}
 use Rattle.library.specs.declared.Written.{Written}
@@ -20,7 +20,7 @@ use Rattle.runs.specs.Run.{Ran, RanTwo}
 use Rattle.runs.specs.declared.RunForm.{RunForm}
 use Rattle.loads.specs.Load.{filterOf}
 use Rattle.frame.specs.Call.{Act, load, run, runTwo, rest, mark, back, drop, opening, writing, at}
-use Rattle.frame.specs.Calls.{emptySnapshot, emptyHead, headAt, withHead, withLibrary, holding, holds, HeadRan, HeadRanTwo, refuse, turn, lastMark, markedHead, nextMark, marksBelow, backHead, dropHead, freshFrame, settled, perform, withNumber, noMark, Sewn, SewnTwo, plainly, withOutput, withOutputs, withMark, withBytes, showOf}
+use Rattle.frame.specs.Calls.{emptyHead, headAt, withHead, withLibrary, holding, holds, taken, HeadRan, HeadRanTwo, refuse, turn, lastMark, markedHead, nextMark, marksBelow, restored, backHead, dropHead, freshFrame, settled, perform, withNumber, noMark, Sewn, SewnTwo, plainly, withOutput, withOutputs, withMark, withBytes, showOf}
 use Rattle.frame.specs.declared.Slot.{Slot}
 use Rattle.frame.specs.declared.Slot.the-variants.{Empty, Holds}
 use Rattle.frame.specs.declared.Snapshot.{Snapshot}
@@ -70,7 +70,7 @@ module _ (f g : Frame) (h : ℕ) (x y : Head) (p : Filter) (form : RunForm) (us 
 -- ---- a head with some of its marks, and a fresh frame
 
 module _ (y : Head) (m : ℕ) (ms : List Snapshot) where
-  pub gone-back : ms ≡ marksBelow (m + 1) (y .marks) → _≡_ {A = Head} (record { now = getD (y .marks) m emptySnapshot; marks = ms; marked = m + 1 }) (backHead y m)
+  pub gone-back : ms ≡ marksBelow (m + 1) (y .marks) → _≡_ {A = Head} (record { now = restored y m; marks = ms; marked = m + 1 }) (backHead y m)
   gone-back e = rw e refl
 
   pub dropped : ms ≡ marksBelow m (y .marks) → _≡_ {A = Head} (record { now = y .now; marks = ms; marked = m }) (dropHead y m)
@@ -122,7 +122,7 @@ module _ (f : Frame) (h : ℕ) where
 
   -- y is the head, and x what becomes of it in the frame g
   module _ (y : Head) (l : h ≤ 11) (b : y ≡ headAt f h) where
-    pub load-accepted : (e : ℕ) (t : Entry) (k : Filter) (x : Head) (g : Frame) (r : Answer) → e < f .library .n → t ≡ entryAt (f .library) e
+    pub load-accepted : (e : ℕ) (t : Entry) (k : Filter) (x : Head) (g : Frame) (r : Answer) → e < f .library .n → t ≡ taken (f .library) e
         → k ≡ filterOf t → x ≡ holding y (holds k) → g ≡ withHead f h x → r ≡ withNumber 0 g → plainly r ≡ perform f (at h (load e))
     load-accepted e t k x g r m p u i w q = rw (q, w, i, u, p, b, below (load e) l, lt-leb _ _ m) refl
 

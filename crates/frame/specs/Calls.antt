@@ -8,6 +8,7 @@ use lib.ListN.{getD, set, replicate}
 use lib.Ieee.{Float}
 use Rattle.filter_core.specs.Buffer.{within}
 use Rattle.sheets.specs.Sheet.{checkOf}
+use Rattle.sheets.specs.declared.entry.Entry.{Entry}
 use Rattle.library.specs.Library.{none, libraryOf, entryAt, writeOf, writtenOf}
 use Rattle.library.specs.declared.Library.{Library}
 use Rattle.any_filter.specs.Cases.{typeOf, rested}
@@ -82,8 +83,12 @@ abbrev pub onFilter : Slot → (Filter → Turn) → Turn
 onFilter Empty t = refuse 6
 onFilter (Holds f) t = t f
 
+-- the entry that a load takes
+abbrev pub taken : Library → ℕ → Entry
+taken l e = entryAt l e
+
 abbrev pub loadTurn : Library → Head → ℕ → Turn
-loadTurn l x e = cond (leb (l .n) e) (refuse 5) (accept (answered 0) (holding x (holds (filterOf (entryAt l e)))))
+loadTurn l x e = cond (leb (l .n) e) (refuse 5) (accept (answered 0) (holding x (holds (filterOf (taken l e)))))
 
 abbrev pub runTurn : Head → RunForm → List Float → List Float → Filter → Turn
 runTurn x form us ys f =
@@ -118,10 +123,14 @@ onlyIf b s = cond b s emptySnapshot
 abbrev pub marksBelow : ℕ → List Snapshot → List Snapshot
 marksBelow k marks = table 4 (λ i. onlyIf (ltb i k) (getD marks i emptySnapshot))
 
+-- what back m restores
+abbrev pub restored : Head → ℕ → Snapshot
+restored x m = getD (x .marks) m emptySnapshot
+
 -- the head after back m and after drop m
 
 abbrev pub backHead : Head → ℕ → Head
-backHead x m = record { now = getD (x .marks) m emptySnapshot; marks = marksBelow (m + 1) (x .marks); marked = m + 1 }
+backHead x m = record { now = restored x m; marks = marksBelow (m + 1) (x .marks); marked = m + 1 }
 
 abbrev pub dropHead : Head → ℕ → Head
 dropHead x m = record { now = x .now; marks = marksBelow m (x .marks); marked = m }

@@ -114,8 +114,9 @@ pub(crate) fn back_head(head: Head, m: usize) -> Head
     ensures { λ r. ⌜ r ≡ backHead head m ⌝ }
 {
     let marks = head.marks;
+    let old = marks[m];
     Head {
-        now: marks[m],
+        now: old,
         marks: marks_below(m + 1, marks),
         marked: m + 1,
     }
