@@ -15,7 +15,7 @@ use Rattle.svf.specs.declared.Svf.{Svf as SvfFilter}
 use Rattle.naive_svf.specs.declared.NaiveSvf.{NaiveSvf}
 use Rattle.modified_svf.specs.declared.ModifiedSvf.{ModifiedSvf}
 use Rattle.crossover_svf.specs.declared.CrossoverSvf.{CrossoverSvf}
-use Rattle.any_filter.specs.Cases.{ofDc, ofOnePole, ofSvf, ofNaive, ofModified, ofCrossover, dcFrom, onePoleFrom, svfFrom, naiveFrom, modifiedFrom, crossoverFrom, typeOf, rested}
+use Rattle.any_filter.specs.Cases.{ofDc, ofOnePole, ofSvf, ofNaive, ofModified, ofCrossover, dcFrom, onePoleFrom, svfFrom, naiveFrom, modifiedFrom, crossoverFrom, rested}
 use Rattle.any_filter.specs.Fields.{fieldsOf, filterFrom, FieldsReturn}
 use Rattle.any_filter.specs.declared.FilterType.{FilterType}
 use Rattle.any_filter.specs.declared.FilterType.the-variants as type

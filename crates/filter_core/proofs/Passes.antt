@@ -229,7 +229,7 @@ some-step {d} r z = go (ltb 0 d) refl
     go true q = ltb-true 0 d q
     go false q =
         let h : d ≡ 0 = omega (arith, ltb-false 0 d q) in
-        let e : _≡_ {A = ℕ} 0 10 = zero-is r z ∙ rw (eq-eqb d 0 h) in omega arith
+        let e : 0 ≡ stepRefusal 0 = rw h at (zero-is r z) in omega arith
 
 module _ {S : Type 0} {d : ℕ} {next : ℕ → S → Float → S} {put : ℕ → S → Float → Float → Float} {s : S} {xs ys : List Float} {number : ℕ} (r : number ≡ stepRefusal d) where
   pub refused : (number ≡ 0 → ⊥) → Answered d next put s xs ys number s ys

@@ -28,8 +28,8 @@ module _ {A : Type 0} {n r : ℕ} (was made : A) (e : n ≡ r) where
 
 -- the number of a step
 module _ (d : ℕ) where
-  pub no-step : d ≡ 0 → 10 ≡ stepRefusal d
-  no-step z = rw (eq-eqb d 0 z)
+  pub zero-step : {n : ℕ} → n ≡ stepRefusal 0 → d ≡ 0 → n ≡ stepRefusal d
+  zero-step e z = rw (eq-eqb d 0 z) e
 
   pub a-step : (d ≡ 0 → ⊥) → 0 ≡ stepRefusal d
   a-step z = rw (ne-eqb d 0 z)

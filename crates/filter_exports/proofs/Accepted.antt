@@ -22,7 +22,8 @@ use Rattle.modified_svf.specs.ModifiedSvf.{modifiedNext, modifiedOut}
 use Rattle.modified_svf.specs.declared.ModifiedSvf.{ModifiedSvf}
 use Rattle.crossover_svf.specs.CrossoverSvf.{crossoverNext, crossoverOut}
 use Rattle.crossover_svf.specs.declared.CrossoverSvf.{CrossoverSvf}
-use Rattle.filter_fields.specs.Numbers.{modeOf, approximationOf, unknownRefusal, firstRefusal}
+use Rattle.filter_core.specs.Rows.{_then_}
+use Rattle.filter_fields.specs.Numbers.{modeOf, approximationOf, unknownRefusal}
 use Rattle.filter_fields.specs.Fields.{onePoleFrom, onePoleFields, svfFrom, svfFields, svfRetained, naiveFrom, naiveFields, modifiedFrom, modifiedFields, crossoverFrom, crossoverFields}
 use Rattle.filter_exports.specs.Calls.{Gives, Sets, Answers, Runs, Filters}
 use Rattle.filter_exports.proofs.Calls.{gives-unknown, gives-frequency-refused, gives-accepted, known, known-first, set-accepted, set-unknown, set-frequency-refused, answer-accepted, answer-unknown, answer-first-unknown, answer-second-unknown, run-accepted, run-unknown, run-first-unknown, run-step-refused, filters, stepped}
@@ -31,27 +32,27 @@ use Rattle.filter_exports.proofs.Settings.{each-keeps, due-keeps, retai
 -- ---- setters
 
 accepted-number : (f : Float) {k number : ℕ} {a : FrequencyApproximation} → k ≤ 3 → a ≡ approximationOf k → number ≡ frequencyRefusal f a → number ≡ 0
-    → 0 ≡ firstRefusal (unknownRefusal k) (frequencyRefusal f (approximationOf k))
+    → 0 ≡ (unknownRefusal k then frequencyRefusal f (approximationOf k))
 accepted-number f h e n z = known-first h (zero-is (rw e at n) z)
 
 module _ (f : Float) {k number : ℕ} {a : FrequencyApproximation} {was fields : List Float} (h : k ≤ 3) (e : a ≡ approximationOf k) (n : number ≡ frequencyRefusal f a) (z : number ≡ 0) where
   pub one-pole-set : {s t : OnePole} → s ≡ onePoleFrom was → t ≡ unlessRefused (frequencyRefusal f a) s (onePoleSetF s f a) → fields ≡ onePoleFields t
-      → Sets (firstRefusal (unknownRefusal k) (frequencyRefusal f (approximationOf k))) was (onePoleFields (onePoleSetF (onePoleFrom was) f (approximationOf k))) 0 fields
+      → Sets (unknownRefusal k then frequencyRefusal f (approximationOf k)) was (onePoleFields (onePoleSetF (onePoleFrom was) f (approximationOf k))) 0 fields
   one-pole-set s t w = set-accepted (accepted-number f h e n z) (rw (rw (accepting _ _ n z, s, e) at t) at w)
 
   pub svf-set : {s t : Svf} (q : Float) → s ≡ svfFrom was → t ≡ unlessRefused (frequencyRefusal f a) s (svfSetFQ s f q a) → fields ≡ svfFields t
-      → Sets (firstRefusal (unknownRefusal k) (frequencyRefusal f (approximationOf k))) was (svfFields (svfSetFQ (svfFrom was) f q (approximationOf k))) 0 fields
+      → Sets (unknownRefusal k then frequencyRefusal f (approximationOf k)) was (svfFields (svfSetFQ (svfFrom was) f q (approximationOf k))) 0 fields
   svf-set q s t w = set-accepted (accepted-number f h e n z) (rw (rw (accepting _ _ n z, s, e) at t) at w)
 
   pub naive-set : {s t : NaiveSvf} (q : Float) → s ≡ naiveFrom was → t ≡ unlessRefused (frequencyRefusal f a) s (naiveSetFQ s f q a) → fields ≡ naiveFields t
-      → Sets (firstRefusal (unknownRefusal k) (frequencyRefusal f (approximationOf k))) was (naiveFields (naiveSetFQ (naiveFrom was) f q (approximationOf k))) 0 fields
+      → Sets (unknownRefusal k then frequencyRefusal f (approximationOf k)) was (naiveFields (naiveSetFQ (naiveFrom was) f q (approximationOf k))) 0 fields
   naive-set q s t w = set-accepted (accepted-number f h e n z) (rw (rw (accepting _ _ n z, s, e) at t) at w)
 
 -- ---- the tangent
 
 pub tan-accepted : (f : Float) {k number : ℕ} {a : FrequencyApproximation} {old v : Float} → k ≤ 3 → a ≡ approximationOf k → number ≡ frequencyRefusal f a → number ≡ 0
     → v ≡ unlessRefused (frequencyRefusal f a) zeroᶠ (tanOf f a)
-    → Gives (firstRefusal (unknownRefusal k) (frequencyRefusal f (approximationOf k))) old (tanOf f (approximationOf k)) 0 v
+    → Gives (unknownRefusal k then frequencyRefusal f (approximationOf k)) old (tanOf f (approximationOf k)) 0 v
 tan-accepted f h e n z v = gives-accepted (accepted-number f h e n z) (rw (accepting _ _ n z, e) at v)
 
 -- ---- one sample x
@@ -72,7 +73,7 @@ module _ (x : Float) {k : ℕ} {m : FilterMode} {was fields : List Float} {old y
 -- of process_dual, whose output goes by the number i of its own mode; j and k are the two numbers
 pub dual-answer : (x : Float) (i : ℕ) {j k : ℕ} {m : FilterMode} {was fields : List Float} {old y : Float} {s t : Svf} → j ≤ 3 → k ≤ 3 → m ≡ modeOf i
     → s ≡ svfFrom was → t ≡ svfNext s x → y ≡ svfOut m s x → fields ≡ svfFields t
-    → Answers (firstRefusal (unknownRefusal j) (unknownRefusal k)) was (svfFields (svfNext (svfFrom was) x)) old (svfOut (modeOf i) (svfFrom was) x) 0 fields y
+    → Answers (unknownRefusal j then unknownRefusal k) was (svfFields (svfNext (svfFrom was) x)) old (svfOut (modeOf i) (svfFrom was) x) 0 fields y
 dual-answer x i g h e s t o w = answer-accepted (known-first g (known h)) (rw (rw s at t) at w) (rw (s, e) at o)
 
 -- ---- buffer forms over the samples xs, from the buffer ys to zs
@@ -88,7 +89,7 @@ module _ {k : ℕ} {m : FilterMode} {was fields xs ys zs : List Float} (h : k �
 
   pub stride-run : (n : ℕ) {number : ℕ} {s t : Svf} → s ≡ svfFrom was → Answered n (eachDue n svfNext) (putsDue n (svfOut m)) s xs ys number t zs → number ≡ 0
       → fields ≡ svfFields (svfRetained (svfFrom was) t)
-      → Runs svfFrom svfFields (firstRefusal (unknownRefusal k) (stepRefusal n)) (eachDue n svfNext) (putsDue n (svfOut (modeOf k))) was xs ys 0 fields zs
+      → Runs svfFrom svfFields (unknownRefusal k then stepRefusal n) (eachDue n svfNext) (putsDue n (svfOut (modeOf k))) was xs ys 0 fields zs
   stride-run n s a z w =
       let d = stepped (rw (s, e) at a) z in
       run-accepted (known-first h (d .0)) (d .1) (w ∙ retained (due-keeps n) (d .1))
@@ -99,7 +100,7 @@ module _ {k : ℕ} {m : FilterMode} {was fields xs ys zs : List Float} (h : k �
 
   pub decimate-run : (n : ℕ) {number : ℕ} {s t : NaiveSvf} → s ≡ naiveFrom was → Answered n (each naiveNext) (putsDue n (naiveOut m)) s xs ys number t zs → number ≡ 0
       → fields ≡ naiveFields t
-      → Runs naiveFrom naiveFields (firstRefusal (unknownRefusal k) (stepRefusal n)) (each naiveNext) (putsDue n (naiveOut (modeOf k))) was xs ys 0 fields zs
+      → Runs naiveFrom naiveFields (unknownRefusal k then stepRefusal n) (each naiveNext) (putsDue n (naiveOut (modeOf k))) was xs ys 0 fields zs
   decimate-run n s a z w = let d = stepped (rw (s, e) at a) z in run-accepted (known-first h (d .0)) (d .1) w
 
   pub modified-run : {s t : ModifiedSvf} → s ≡ modifiedFrom was → Filtered (each (modifiedNext m)) (puts (modifiedOut m)) s xs ys t zs → fields ≡ modifiedFields t

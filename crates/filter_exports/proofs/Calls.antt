@@ -10,7 +10,8 @@ use Rattle.filter_core.specs.Buffer.{Filtered}
 use Rattle.filter_core.specs.Refusal.{Answered, stepRefusal, frequencyRefusal}
 use Rattle.filter_core.specs.declared.FrequencyApproximation.{FrequencyApproximation}
 use Rattle.filter_core.proofs.Refusals.{refusing, accepting, zero-is, stays, goes}
-use Rattle.filter_fields.specs.Numbers.{approximationOf, unknownRefusal, firstRefusal}
+use Rattle.filter_core.specs.Rows.{_then_}
+use Rattle.filter_fields.specs.Numbers.{approximationOf, unknownRefusal}
 use Rattle.filter_exports.specs.Calls.{Gives, Sets, Answers, Runs, Filters}
 
 -- ---- the number k alone and before another refusal b
@@ -22,10 +23,10 @@ module _ {k : ℕ} where
   pub known : k ≤ 3 → 0 ≡ unknownRefusal k
   known h = rw (le-leb k 3 h)
 
-  unknown-first : (b : ℕ) → 3 < k → 100 ≡ firstRefusal (unknownRefusal k) b
+  unknown-first : (b : ℕ) → 3 < k → 100 ≡ (unknownRefusal k then b)
   unknown-first b h = rw (lt-leb k 3 h)
 
-  pub known-first : {b number : ℕ} → k ≤ 3 → number ≡ b → number ≡ firstRefusal (unknownRefusal k) b
+  pub known-first : {b number : ℕ} → k ≤ 3 → number ≡ b → number ≡ (unknownRefusal k then b)
   known-first h e = rw (le-leb k 3 h, e)
 
 hundred : _≡_ {A = ℕ} 100 0 → ⊥
@@ -40,11 +41,11 @@ pub gives-accepted : {n : ℕ} {old new is : Float} → 0 ≡ n → is ≡ new �
 gives-accepted e o = record { refusal = e; output = goes _ _ e refl o }
 
 module _ {k : ℕ} {old new : Float} where
-  pub gives-unknown : (b : ℕ) → 3 < k → Gives (firstRefusal (unknownRefusal k) b) old new 100 old
+  pub gives-unknown : (b : ℕ) → 3 < k → Gives (unknownRefusal k then b) old new 100 old
   gives-unknown b h = gives-refused (unknown-first b h) hundred
 
   pub gives-frequency-refused : (f : Float) {a : FrequencyApproximation} {number : ℕ} → k ≤ 3 → a ≡ approximationOf k → number ≡ frequencyRefusal f a → (number ≡ 0 → ⊥)
-      → Gives (firstRefusal (unknownRefusal k) (frequencyRefusal f (approximationOf k))) old new number old
+      → Gives (unknownRefusal k then frequencyRefusal f (approximationOf k)) old new number old
   gives-frequency-refused f h a e z = gives-refused (known-first h (rw a at e)) z
 
 -- ---- a setter
@@ -56,11 +57,11 @@ pub set-accepted : {n : ℕ} {was made fields : List Float} → 0 ≡ n → fiel
 set-accepted e w = record { refusal = e; state = goes _ _ e refl w }
 
 module _ {k : ℕ} {was made : List Float} where
-  pub set-unknown : (b : ℕ) → 3 < k → Sets (firstRefusal (unknownRefusal k) b) was made 100 was
+  pub set-unknown : (b : ℕ) → 3 < k → Sets (unknownRefusal k then b) was made 100 was
   set-unknown b h = set-refused (unknown-first b h) hundred
 
   pub set-frequency-refused : (f : Float) {a : FrequencyApproximation} {number : ℕ} → k ≤ 3 → a ≡ approximationOf k → number ≡ frequencyRefusal f a → (number ≡ 0 → ⊥)
-      → Sets (firstRefusal (unknownRefusal k) (frequencyRefusal f (approximationOf k))) was made number was
+      → Sets (unknownRefusal k then frequencyRefusal f (approximationOf k)) was made number was
   set-frequency-refused f h a e z = set-refused (known-first h (rw a at e)) z
 
 -- ---- a call for one sample
@@ -75,10 +76,10 @@ module _ {k : ℕ} {was made : List Float} {old new : Float} where
   pub answer-unknown : 3 < k → Answers (unknownRefusal k) was made old new 100 was old
   answer-unknown h = answer-refused (unknown h) hundred
 
-  pub answer-first-unknown : (b : ℕ) → 3 < k → Answers (firstRefusal (unknownRefusal k) b) was made old new 100 was old
+  pub answer-first-unknown : (b : ℕ) → 3 < k → Answers (unknownRefusal k then b) was made old new 100 was old
   answer-first-unknown b h = answer-refused (unknown-first b h) hundred
 
-  pub answer-second-unknown : {j : ℕ} → j ≤ 3 → 3 < k → Answers (firstRefusal (unknownRefusal j) (unknownRefusal k)) was made old new 100 was old
+  pub answer-second-unknown : {j : ℕ} → j ≤ 3 → 3 < k → Answers (unknownRefusal j then unknownRefusal k) was made old new 100 was old
   answer-second-unknown g h = answer-refused (known-first g (unknown h)) hundred
 
 -- ---- a buffer form
@@ -95,12 +96,12 @@ module _ {S : Type 0} {read : List Float → S} {write : S → List Float} {next
     pub run-unknown : 3 < k → Runs read write (unknownRefusal k) next put was xs ys 100 was ys
     run-unknown h = run-refused (unknown h) hundred refl
 
-    pub run-first-unknown : (b : ℕ) → 3 < k → Runs read write (firstRefusal (unknownRefusal k) b) next put was xs ys 100 was ys
+    pub run-first-unknown : (b : ℕ) → 3 < k → Runs read write (unknownRefusal k then b) next put was xs ys 100 was ys
     run-first-unknown b h = run-refused (unknown-first b h) hundred refl
 
     -- a form that goes by the step d, whatever it would have done
     pub run-step-refused : {d number : ℕ} {next′ : ℕ → S → Float → S} {put′ : ℕ → S → Float → Float → Float} {s f : S} {zs : List Float} → k ≤ 3
-        → Answered d next′ put′ s xs ys number f zs → (number ≡ 0 → ⊥) → Runs read write (firstRefusal (unknownRefusal k) (stepRefusal d)) next put was xs ys number was zs
+        → Answered d next′ put′ s xs ys number f zs → (number ≡ 0 → ⊥) → Runs read write (unknownRefusal k then stepRefusal d) next put was xs ys number was zs
     run-step-refused {number = number} h a z =
         run-refused (known-first h (a .refusal)) z (rw (refusing number _ (a .refusal) z) at (a .filtered .buffer))
 

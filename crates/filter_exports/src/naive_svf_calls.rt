@@ -7,7 +7,8 @@ ghost use mathlib.Core.Path.{_≡_};
 ghost use Rattle.filter_core.specs.Buffer.{within, each, puts, putsDue};
 ghost use Rattle.filter_core.specs.Refusal.{frequencyRefusal, stepRefusal};
 ghost use Rattle.naive_svf.specs.NaiveSvf.{naiveNew, naiveInit, naiveReset, naiveSetFQ, naiveNext, naiveOut, naiveLow, naiveHigh};
-ghost use Rattle.filter_fields.specs.Numbers.{modeOf, approximationOf, unknownRefusal, firstRefusal};
+ghost use Rattle.filter_core.specs.Rows.{_then_};
+ghost use Rattle.filter_fields.specs.Numbers.{modeOf, approximationOf, unknownRefusal};
 ghost use Rattle.filter_fields.specs.Fields.{naiveFrom, naiveFields};
 ghost use Rattle.filter_exports.specs.Calls.{Sets, Answers, Runs, Filters};
 
@@ -40,7 +41,7 @@ pub extern "C" fn naive_svf_set_f_q(
     resonance: f32,
     approximation: u8,
 ) -> u8
-    ensures { λ r. ⌜ Sets (firstRefusal (unknownRefusal approximation) (frequencyRefusal f (approximationOf approximation)))
+    ensures { λ r. ⌜ Sets (unknownRefusal approximation then frequencyRefusal f (approximationOf approximation))
         (now (state .entry)) (naiveFields (naiveSetFQ (naiveFrom (now (state .entry))) f resonance (approximationOf approximation))) r (now (state .exit)) ⌝ }
 {
     if LAST < approximation {
@@ -137,7 +138,7 @@ pub extern "C" fn naive_svf_process_decimate(
     decimate: usize,
     mode: u8,
 ) -> u8
-    ensures { λ r. ⌜ Runs naiveFrom naiveFields (firstRefusal (unknownRefusal mode) (stepRefusal decimate)) (each naiveNext) (putsDue decimate (naiveOut (modeOf mode)))
+    ensures { λ r. ⌜ Runs naiveFrom naiveFields (unknownRefusal mode then stepRefusal decimate) (each naiveNext) (putsDue decimate (naiveOut (modeOf mode)))
         (now (state .entry)) (within (now («in_» .entry)) (now (out .entry))) (now (out .entry)) r (now (state .exit)) (now (out .exit)) ⌝ }
 {
     if LAST < mode {

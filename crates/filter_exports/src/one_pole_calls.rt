@@ -7,7 +7,8 @@ ghost use mathlib.Core.Path.{_≡_};
 ghost use Rattle.filter_core.specs.Refusal.{frequencyRefusal};
 ghost use Rattle.one_pole.specs.Tangent.{tanOf};
 ghost use Rattle.one_pole.specs.OnePole.{onePoleNew, onePoleInit, onePoleReset, onePoleSetF, onePoleNext, onePoleOut};
-ghost use Rattle.filter_fields.specs.Numbers.{modeOf, approximationOf, unknownRefusal, firstRefusal};
+ghost use Rattle.filter_core.specs.Rows.{_then_};
+ghost use Rattle.filter_fields.specs.Numbers.{modeOf, approximationOf, unknownRefusal};
 ghost use Rattle.filter_fields.specs.Fields.{onePoleFrom, onePoleFields};
 ghost use Rattle.filter_exports.specs.Calls.{Gives, Sets, Answers};
 
@@ -35,7 +36,7 @@ pub extern "C" fn one_pole_reset(state: &mut [f32; 3])
 // Refused with UNKNOWN, then with 11 where Exact gets an f below 0.
 #[no_mangle]
 pub extern "C" fn one_pole_tan(f: f32, approximation: u8, value: &mut f32) -> u8
-    ensures { λ r. ⌜ Gives (firstRefusal (unknownRefusal approximation) (frequencyRefusal f (approximationOf approximation)))
+    ensures { λ r. ⌜ Gives (unknownRefusal approximation then frequencyRefusal f (approximationOf approximation))
         (now (value .entry)) (tanOf f (approximationOf approximation)) r (now (value .exit)) ⌝ }
 {
     if LAST < approximation {
@@ -52,7 +53,7 @@ pub extern "C" fn one_pole_tan(f: f32, approximation: u8, value: &mut f32) -> u8
 // Refused as one_pole_tan is.
 #[no_mangle]
 pub extern "C" fn one_pole_set_f(state: &mut [f32; 3], f: f32, approximation: u8) -> u8
-    ensures { λ r. ⌜ Sets (firstRefusal (unknownRefusal approximation) (frequencyRefusal f (approximationOf approximation)))
+    ensures { λ r. ⌜ Sets (unknownRefusal approximation then frequencyRefusal f (approximationOf approximation))
         (now (state .entry)) (onePoleFields (onePoleSetF (onePoleFrom (now (state .entry))) f (approximationOf approximation))) r (now (state .exit)) ⌝ }
 {
     if LAST < approximation {

@@ -8,7 +8,8 @@ ghost use Rattle.filter_core.specs.Buffer.{within, each, puts, eachDue, putsDue
 ghost use Rattle.filter_core.specs.Refusal.{frequencyRefusal, stepRefusal};
 ghost use Rattle.svf.specs.Svf.{svfNew, svfInit, svfReset, svfSet, svfSetGRH, svfSetGR, svfSetGQ, svfSetFQ};
 ghost use Rattle.svf.specs.Svf.{svfNext, svfOut, svfGained, svfMultimode};
-ghost use Rattle.filter_fields.specs.Numbers.{modeOf, approximationOf, unknownRefusal, firstRefusal};
+ghost use Rattle.filter_core.specs.Rows.{_then_};
+ghost use Rattle.filter_fields.specs.Numbers.{modeOf, approximationOf, unknownRefusal};
 ghost use Rattle.filter_fields.specs.Fields.{svfFrom, svfFields};
 ghost use Rattle.filter_exports.specs.Calls.{Sets, Answers, Runs, Filters};
 
@@ -66,7 +67,7 @@ pub extern "C" fn svf_set_g_q(state: &mut [f32; 5], g: f32, resonance: f32)
 // Refused with UNKNOWN, then with 11 where Exact gets an f below 0.
 #[no_mangle]
 pub extern "C" fn svf_set_f_q(state: &mut [f32; 5], f: f32, resonance: f32, approximation: u8) -> u8
-    ensures { λ r. ⌜ Sets (firstRefusal (unknownRefusal approximation) (frequencyRefusal f (approximationOf approximation)))
+    ensures { λ r. ⌜ Sets (unknownRefusal approximation then frequencyRefusal f (approximationOf approximation))
         (now (state .entry)) (svfFields (svfSetFQ (svfFrom (now (state .entry))) f resonance (approximationOf approximation))) r (now (state .exit)) ⌝ }
 {
     if LAST < approximation {
@@ -129,9 +130,9 @@ pub extern "C" fn svf_process_dual(
     mode_1: u8,
     mode_2: u8,
 ) -> u8
-    ensures first { λ r. ⌜ Answers (firstRefusal (unknownRefusal «mode_1») (unknownRefusal «mode_2»)) (now (state .entry)) (svfFields (svfNext (svfFrom (now (state .entry))) «in_»))
+    ensures first { λ r. ⌜ Answers (unknownRefusal «mode_1» then unknownRefusal «mode_2») (now (state .entry)) (svfFields (svfNext (svfFrom (now (state .entry))) «in_»))
         (now («out_1» .entry)) (svfOut (modeOf «mode_1») (svfFrom (now (state .entry))) «in_») r (now (state .exit)) (now («out_1» .exit)) ⌝ }
-    ensures second { λ r. ⌜ Answers (firstRefusal (unknownRefusal «mode_1») (unknownRefusal «mode_2»)) (now (state .entry)) (svfFields (svfNext (svfFrom (now (state .entry))) «in_»))
+    ensures second { λ r. ⌜ Answers (unknownRefusal «mode_1» then unknownRefusal «mode_2») (now (state .entry)) (svfFields (svfNext (svfFrom (now (state .entry))) «in_»))
         (now («out_2» .entry)) (svfOut (modeOf «mode_2») (svfFrom (now (state .entry))) «in_») r (now (state .exit)) (now («out_2» .exit)) ⌝ }
 {
     if LAST < mode_1 {
@@ -203,7 +204,7 @@ pub extern "C" fn svf_process_stride_buffer(
     stride: usize,
     mode: u8,
 ) -> u8
-    ensures { λ r. ⌜ Runs svfFrom svfFields (firstRefusal (unknownRefusal mode) (stepRefusal stride)) (eachDue stride svfNext) (putsDue stride (svfOut (modeOf mode)))
+    ensures { λ r. ⌜ Runs svfFrom svfFields (unknownRefusal mode then stepRefusal stride) (eachDue stride svfNext) (putsDue stride (svfOut (modeOf mode)))
         (now (state .entry)) (within (now («in_» .entry)) (now (out .entry))) (now (out .entry)) r (now (state .exit)) (now (out .exit)) ⌝ }
 {
     if LAST < mode {

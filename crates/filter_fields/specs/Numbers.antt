@@ -17,7 +17,3 @@ approximationOf n = cond (eqb n 0) Exact (cond (eqb n 1) Accurate (cond (eqb n 2
 -- the number names no mode, or no approximation. 100 is not in document 01's table
 abbrev pub unknownRefusal : ℕ → ℕ
 unknownRefusal n = cond (leb n 3) 0 100
-
--- of two refusals the first that is not 0
-abbrev pub firstRefusal : ℕ → ℕ → ℕ
-firstRefusal a b = cond (eqb a 0) b a

@@ -14,7 +14,6 @@ use Rattle.sheets.specs.Sheet.{entriesOf}
 use Rattle.sheets.proofs.Rows.{checked}
 use Rattle.library.specs.Library.{libraryOf}
 use Rattle.library.proofs.Rows.{write-by-rows}
-use Rattle.runs.specs.Form.{runRefusal, runTwoRefusal}
 use Rattle.runs.specs.Rows as rows
 use Rattle.runs.specs.declared.RunForm.{RunForm}
 use Rattle.runs.proofs.Rows.{by-rows}

@@ -1,7 +1,7 @@
 -- What holds of every history that calls make: the filter that it leads to is of the type that it names, and no head has more than four
 -- checkpoints. Assumes nothing.
 use Prim.Native.Nat.{ℕ, zero, suc, _+_, _≤_, _<_}
-use mathlib.Core.Path.{_≡_, refl, ap, sym, _∙_}
+use mathlib.Core.Path.{_≡_, refl, sym, _∙_}
 use mathlib.Core.Bool.{Bool, true, false, cond}
 use mathlib.Core.List.{List, [], _∷_, _++_}
 use native.Mathlib.Omega.{arith}
@@ -13,7 +13,7 @@ use Rattle.filter_core.specs.Buffer.{within}
 use Rattle.sheets.specs.Sheet.{entriesOf, entryIn, checkOf}
 use Rattle.sheets.specs.declared.entry.Entry.{Entry}
 use Rattle.sheets.proofs.Rows.{check-sheet}
-use Rattle.library.specs.Library.{libraryOf, entryAt, writeOf}
+use Rattle.library.specs.Library.{libraryOf, entryAt}
 use Rattle.library.specs.Rows.{Held, nothing, of-sheet}
 use Rattle.library.proofs.RoundTrip.{same-entries, no-sheet}
 use Rattle.any_filter.specs.Cases.{typeOf, rested}
@@ -23,9 +23,8 @@ use Rattle.any_filter.specs.declared.Filter.{Filter}
 use Rattle.any_filter.specs.declared.Filter.the-variants.{Dc, OnePole, Svf, Naive, Modified, Crossover}
 use Rattle.runs.specs.Run.{through}
 use Rattle.runs.specs.declared.RunForm.{RunForm}
-use Rattle.loads.specs.Load.{filterOf}
 use Rattle.frame.specs.Call.{Act, load, run, runTwo, rest, mark, back, drop, Call, opening, writing, at}
-use Rattle.frame.specs.History.{Event, loadEvent, runEvent, restEvent, HeadHistory, Histories, noHistories, typeWith, typeFrom, lastType, unlessBare, actNumber, callNumber, adding, grownBy, changedAt, grown, advance, advanceAll, slotWith, snapshotWith, snapshotFrom, snapshotOf}
+use Rattle.frame.specs.History.{Event, loadEvent, runEvent, restEvent, HeadHistory, Histories, noHistories, typeWith, typeFrom, lastType, unlessBare, actNumber, callNumber, grownBy, grown, advance, advanceAll, slotWith, snapshotWith, snapshotFrom, snapshotOf}
 use Rattle.frame.specs.declared.Slot.{Slot}
 use Rattle.frame.specs.declared.Slot.the-variants.{Empty, Holds}
 use Rattle.frame.specs.declared.Snapshot.{Snapshot}
@@ -128,14 +127,14 @@ goods-take (suc n) (x ∷ r) g (suc m) = goods-take n r (λ i. g (suc i)) m
 
 -- ---- an accepted call keeps its head sound
 
--- a mark is accepted only below four
-below-four : (l : List Event) (n : ℕ) → unlessBare l (cond (ltb 3 n) 8 0) ≡ 0 → n ≤ 3
-below-four [] n e = absurd (omega arith)
-below-four (i ∷ l) n e = go (ltb 3 n) refl e
+-- a mark is accepted only up to a limit
+up-to : (k n r : ℕ) (l : List Event) → unlessBare l (cond (ltb k n) (suc r) 0) ≡ 0 → n ≤ k
+up-to k n r [] e = absurd (omega arith)
+up-to k n r (i ∷ l) e = go (ltb k n) refl e
   where
-    go : (b : Bool) → ltb 3 n ≡ b → cond {A = ℕ} b 8 0 ≡ 0 → n ≤ 3
+    go : (b : Bool) → ltb k n ≡ b → cond {A = ℕ} b (suc r) 0 ≡ 0 → n ≤ k
     go true q e = absurd (omega arith)
-    go false q e = ltb-false 3 n q
+    go false q e = ltb-false k n q
 
 sound-grown : (s : List ℕ) (x : HeadHistory) (a : Act) → SoundHead x → actNumber s x a ≡ 0 → SoundHead (grownBy s x a)
 sound-grown s x (load e) S q = record { good = good-load (x .history) (entryIn s e); goods = S .goods; four = S .four }
@@ -147,7 +146,7 @@ sound-grown s x mark S q =
     record {
       good = S .good;
       goods = goods-snoc (x .checkpoints) (x .history) (S .goods) (S .good);
-      four = omega (arith, length-append (x .checkpoints) (x .history ∷ []), below-four (x .history) (length (x .checkpoints)) q);
+      four = omega (arith, length-append (x .checkpoints) (x .history ∷ []), up-to _ (length (x .checkpoints)) _ (x .history) q);
     }
 sound-grown s x (back m) S q =
     record { good = S .goods m; goods = goods-take (m + 1) (x .checkpoints) (S .goods); four = omega (arith, length-take (m + 1) (x .checkpoints), S .four) }

@@ -1,6 +1,6 @@
 -- Demand 3, over whole lists of calls: from the picture of any sound histories, of which a fresh frame is one. Assumes nothing.
 use Prim.Native.Nat.{ℕ}
-use mathlib.Core.Path.{_≡_, refl, ap, sym, _∙_}
+use mathlib.Core.Path.{_≡_, refl, ap}
 use mathlib.Core.List.{List, [], _∷_}
 use native.Mathlib.Omega.{arith}
 use Rattle.library.proofs.RoundTrip.{no-sheet}
@@ -12,7 +12,7 @@ use Rattle.frame.specs.Demand.{repliesFrom, frameAfter, Upheld, Demand3}
 use Rattle.frame.specs.declared.Slot.{Slot}
 use Rattle.frame.specs.declared.Slot.the-variants.{Empty, Holds}
 use Rattle.frame.proofs.Tables.{getD-table, take-table}
-use Rattle.frame.proofs.Sound.{Fits, bare, held, Good, Sound, sound-advance, sound-none}
+use Rattle.frame.proofs.Sound.{Fits, bare, held, Sound, sound-advance, sound-none}
 use Rattle.frame.proofs.Picture.{headFor, frameFor, follows}
 
 record Followed (H : Histories) (cs : List Call) : Type 0 where

@@ -18,7 +18,7 @@ use Rattle.runs.specs.Run.{through, firstOutput, secondOutput}
 use Rattle.runs.specs.declared.RunForm.{RunForm}
 use Rattle.loads.specs.Load.{filterOf}
 use Rattle.frame.specs.Table.{table}
-use Rattle.frame.specs.Call.{Act, load, run, runTwo, rest, mark, back, drop, Call, opening, writing, at, Reply, answered, marked, ran, ranTwo, wrote, refusedAct, refused}
+use Rattle.frame.specs.Call.{Act, load, run, runTwo, rest, mark, back, drop, Call, opening, writing, at, Reply, answered, marked, ran, ranTwo, wrote, refusedAct}
 use Rattle.frame.specs.declared.Slot.{Slot}
 use Rattle.frame.specs.declared.Slot.the-variants.{Empty, Holds}
 use Rattle.frame.specs.declared.Snapshot.{Snapshot}

@@ -66,12 +66,16 @@ abbrev pub unlessBare : List Event → ℕ → ℕ
 unlessBare [] n = 6
 unlessBare (i ∷ is) n = n
 
+-- four checkpoints at most
+abbrev pub markRefusal : HeadHistory → ℕ
+markRefusal x = cond (ltb 3 (length (x .checkpoints))) 8 0
+
 abbrev pub actNumber : List ℕ → HeadHistory → Act → ℕ
 actNumber s x (load e) = cond (leb (entriesOf s) e) 5 0
 actNumber s x (run form us ys) = unlessBare (x .history) (runRefusal (lastType (x .history)) form)
 actNumber s x (runTwo form us ys zs) = unlessBare (x .history) (runTwoRefusal (lastType (x .history)) form)
 actNumber s x rest = unlessBare (x .history) 0
-actNumber s x mark = unlessBare (x .history) (cond (ltb 3 (length (x .checkpoints))) 8 0)
+actNumber s x mark = unlessBare (x .history) (markRefusal x)
 actNumber s x (back m) = cond (leb (length (x .checkpoints)) m) 7 0
 actNumber s x (drop m) = cond (leb (length (x .checkpoints)) m) 7 0
 

@@ -1,5 +1,4 @@
 -- What loading comes to for each setter: r is the case that is answered, n the new filter, t the filter that is set. Assumes nothing.
-use Prim.Native.Nat.{ℕ}
 use mathlib.Core.Path.{_≡_, refl}
 use borrow.Author.Needs.{needs}
 use lib.Ieee.{Float}

@@ -23,7 +23,6 @@ use Rattle.naive_svf.specs.declared.NaiveSvf.{NaiveSvf}
 use Rattle.modified_svf.specs.declared.ModifiedSvf.{ModifiedSvf}
 use Rattle.crossover_svf.specs.declared.CrossoverSvf.{CrossoverSvf}
 use Rattle.any_filter.specs.Cases.{ofDc, ofOnePole, ofSvf, ofNaive, ofModified, ofCrossover, dcFrom, onePoleFrom, svfFrom, naiveFrom, modifiedFrom, crossoverFrom}
-use Rattle.any_filter.specs.declared.FilterType.{FilterType}
 use Rattle.any_filter.specs.declared.FilterType.the-variants as type
 use Rattle.any_filter.specs.declared.Filter.{Filter}
 use Rattle.any_filter.specs.declared.Filter.the-variants.{Dc, OnePole, Svf, Naive, Modified, Crossover}

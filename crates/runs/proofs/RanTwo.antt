@@ -13,7 +13,7 @@ use Rattle.svf.specs.Svf.{svfNext, svfOut, svfGained}
 use Rattle.naive_svf.specs.NaiveSvf.{naiveNext, naiveLow, naiveHigh}
 use Rattle.svf.specs.declared.Svf.{Svf as SvfFilter}
 use Rattle.naive_svf.specs.declared.NaiveSvf.{NaiveSvf}
-use Rattle.any_filter.specs.Cases.{ofSvf, ofNaive, svfFrom, naiveFrom, typeOf}
+use Rattle.any_filter.specs.Cases.{ofSvf, ofNaive, svfFrom, naiveFrom}
 use Rattle.any_filter.specs.declared.FilterType.the-variants as type
 use Rattle.any_filter.specs.declared.Filter.{Filter}
 use Rattle.any_filter.specs.declared.Filter.the-variants.{Svf, Naive}

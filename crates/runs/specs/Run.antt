@@ -1,6 +1,5 @@
 -- What each form does with each filter. A form that a filter does not have is refused before any of this is asked: it changes nothing.
 use Prim.Native.Nat.{ℕ}
-use mathlib.Core.Bool.{cond}
 use mathlib.Core.Path.{_≡_}
 use mathlib.Core.List.{List}
 use lib.Ieee.{Float}

@@ -1,7 +1,7 @@
 -- Where the source differs from what is published or is easily misread, by the smallest input that shows it: the port does as the source.
 -- docs/DIFFERENCES.md says what each row is about.
 use mathlib.Core.Path.{_≡_}
-use mathlib.Core.List.{List, [], _∷_}
+use mathlib.Core.List.{[], _∷_}
 use lib.Ieee.{Float}
 use Rattle.filter_core.specs.Arithmetic.{_-ᶠ_, word, zeroᶠ, halfᶠ, oneᶠ, twoᶠ, negᶠ}
 use Rattle.filter_core.specs.Buffer.{bufferAfter, each, puts}

@@ -1,4 +1,4 @@
-use Rattle.filter_core.proofs.Refusals.{no-step, a-step}
+use Rattle.filter_core.proofs.Refusals.{zero-step, a-step}
 use Rattle.filter_core.proofs.step_refusal.Statement.{statement}
 use Rattle.filter_core.proofs.step_refusal.Tie as tie
 
@@ -6,5 +6,5 @@ pub step-refusal-spec : {M : Type 1} → statement M
 step-refusal-spec =
     tie.close
     (tie.spec
-    (λ c. search (no-step, a-step))
-    (λ c. search (no-step, a-step)))
+    (λ c. search (zero-step, a-step))
+    (λ c. search (zero-step, a-step)))

@@ -1,4 +1,3 @@
-use mathlib.Core.Path.{refl}
 use Rattle.frame.specs.Table.{table}
 use borrow.Author.Needs.{needs}
 use Rattle.frame.proofs.one_head.marks_below.Statement.{statement}
