@@ -246,10 +246,10 @@ impl Filter {
     }
 
     // The filter of a type with these fields. Those behind the type's last do not count.
-    pub fn of_fields(kind: FilterType, v: [f32; 8]) -> Filter
-        ensures { λ r. ⌜ r ≡ filterFrom kind v ⌝ }
+    pub fn of_fields(filter: FilterType, v: [f32; 8]) -> Filter
+        ensures { λ r. ⌜ r ≡ filterFrom filter v ⌝ }
     {
-        match kind {
+        match filter {
             FilterType::DcBlocker => Filter::Dc {
                 pole: v[0],
                 x: v[1],

@@ -22,7 +22,6 @@ pub enum FrequencyApproximation {
     Dirty,
 }
 
-// The number that a stride or a decimation gets: 10 for 0, or 0.
 // The first refusal of two; 0 is none.
 pub fn then(a: u8, b: u8) -> u8
     ensures { λ r. ⌜ r ≡ (a then b) ⌝ }
@@ -30,6 +29,7 @@ pub fn then(a: u8, b: u8) -> u8
     if a == 0 { b } else { a }
 }
 
+// The number that a stride or a decimation gets: 10 for 0, or 0.
 pub fn step_refusal(step: usize) -> u8
     ensures { λ r. ⌜ r ≡ stepRefusal step ⌝ }
 {

@@ -172,19 +172,19 @@ perform f (at h a) = settled f h a (atHead h (turn (f .library) (headAt f h) a))
 
 -- ---- the answers of the code, with the lent outputs as they are left
 
-abbrev pub withNumber : ℕ → Frame → Answer
-withNumber n f = record { number = n; frame = f }
+abbrev pub numberedAnswer : ℕ → Frame → Answer
+numberedAnswer n f = record { number = n; frame = f }
 
 abbrev pub noMark : ℕ → Frame → Marked
 noMark n f = record { number = n; mark = 0; frame = f }
 
 -- the accepted run of the filter p in the head x, which stands at the place h
 pub record Sewn (f : Frame) (h : ℕ) (x : Head) (p : Filter) (form : RunForm) (us ys : List Float) (r : Answer) (ys′ : List Float) : Type 0 where
-  pub answer-is : r ≡ withNumber 0 (withHead f h (holding x (holds (through p form (within us ys)))))
+  pub answer-is : r ≡ numberedAnswer 0 (withHead f h (holding x (holds (through p form (within us ys)))))
   pub output-is : ys′ ≡ firstOutput p form (within us ys) ys
 
 pub record SewnTwo (f : Frame) (h : ℕ) (x : Head) (p : Filter) (form : RunForm) (us ys zs : List Float) (r : Answer) (ys′ zs′ : List Float) : Type 0 where
-  pub answer-is : r ≡ withNumber 0 (withHead f h (holding x (holds (through p form (within (within us ys) zs)))))
+  pub answer-is : r ≡ numberedAnswer 0 (withHead f h (holding x (holds (through p form (within (within us ys) zs)))))
   pub first-is : ys′ ≡ firstOutput p form (within (within us ys) zs) ys
   pub second-is : zs′ ≡ secondOutput p form (within (within us ys) zs) zs
 
@@ -200,8 +200,8 @@ withOutputs a ys zs = record { reply = ranTwo (a .number) ys zs; frame = a .fram
 abbrev pub withMark : Marked → Done
 withMark a = record { reply = marked (a .number) (a .mark); frame = a .frame }
 
-abbrev pub withBytes : Wrote → List ℕ → Done
-withBytes a out = record { reply = wrote (a .number) (a .length) out; frame = a .frame }
+abbrev pub withWritten : Wrote → List ℕ → Done
+withWritten a out = record { reply = wrote (a .number) (a .length) out; frame = a .frame }
 
 -- ---- a fresh frame, and a head as it stands; of a head above 11, an empty one
 

@@ -20,7 +20,7 @@ ghost use Prim.Native.Nat.{_≤_};
 ghost use Rattle.any_filter.specs.Cases.{typeOf};
 ghost use Rattle.runs.specs.Form.{runRefusal, runTwoRefusal};
 ghost use Rattle.frame.specs.Call.{load, run, runTwo, rest, mark, back, drop, opening, writing, at};
-ghost use Rattle.frame.specs.Calls.{headAt, withHead, withLibrary, withNumber, noMark, Sewn, SewnTwo, freshFrame, perform, plainly, withOutput, withOutputs, withMark, withBytes, showOf};
+ghost use Rattle.frame.specs.Calls.{headAt, withHead, withLibrary, numberedAnswer, noMark, Sewn, SewnTwo, freshFrame, perform, plainly, withOutput, withOutputs, withMark, withWritten, showOf};
 ghost use Rattle.frame.specs.Rows.{NumbersByRows};
 ghost use Rattle.frame.specs.Demand.{Demand3};
 
@@ -99,7 +99,7 @@ fn with_library(mut frame: Frame, library: Library) -> Frame
 // ---- a call's answer
 
 fn refused(frame: Frame, number: u8) -> Answer
-    ensures { λ r. ⌜ r ≡ withNumber number frame ⌝ }
+    ensures { λ r. ⌜ r ≡ numberedAnswer number frame ⌝ }
 {
     Answer {
         number: number,
@@ -108,7 +108,7 @@ fn refused(frame: Frame, number: u8) -> Answer
 }
 
 fn accepted(frame: Frame) -> Answer
-    ensures { λ r. ⌜ r ≡ withNumber 0 frame ⌝ }
+    ensures { λ r. ⌜ r ≡ numberedAnswer 0 frame ⌝ }
 {
     Answer {
         number: 0,
@@ -320,7 +320,7 @@ impl Frame {
 
     // Writes the library as a sheet.
     pub fn write(self, output: &mut [u8]) -> Wrote
-        ensures { λ r. ⌜ withBytes r (now (output .exit)) ≡ perform self (writing (now (output .entry))) ⌝ }
+        ensures { λ r. ⌜ withWritten r (now (output .exit)) ≡ perform self (writing (now (output .entry))) ⌝ }
     {
         let library = self.library;
         let written = library::write(library, output);

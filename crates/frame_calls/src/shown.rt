@@ -38,9 +38,9 @@ fn fields(v: [f32; 8], count: usize, out: &mut [u8], at: usize) -> usize {
 }
 
 fn filter(f: Filter, out: &mut [u8], at: usize) -> usize {
-    let kind = f.filter_type();
-    let to = name(kind, out, at);
-    fields(f.fields(), kind.field_count(), out, to)
+    let filter_type = f.filter_type();
+    let to = name(filter_type, out, at);
+    fields(f.fields(), filter_type.field_count(), out, to)
 }
 
 // A space, and what the head or a mark holds.

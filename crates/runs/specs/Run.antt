@@ -43,8 +43,8 @@ abbrev pub oneOutput : {S : Type 0} → (ℕ → S → Float → S) → (ℕ →
 oneOutput next put = record { next = next; first = put; second = keeps }
 
 -- every sample is filtered and every place written
-abbrev pub plainly : {S : Type 0} → (S → Float → S) → (S → Float → Float) → Form S
-plainly next out = oneOutput (each next) (puts out)
+abbrev pub throughout : {S : Type 0} → (S → Float → S) → (S → Float → Float) → Form S
+throughout next out = oneOutput (each next) (puts out)
 
 abbrev pub twoOutputs : {S : Type 0} → (S → Float → S) → (S → Float → Float) → (S → Float → Float) → Form S
 twoOutputs next a b = record { next = each next; first = puts a; second = puts b }
@@ -52,17 +52,17 @@ twoOutputs next a b = record { next = each next; first = puts a; second = puts b
 -- ---- the forms of each filter
 
 abbrev pub svfForm : RunForm → Form SvfFilter
-svfForm (Plain mode) = plainly svfNext (svfOut mode)
-svfForm (Gain mode gain) = plainly svfNext (svfGained mode gain)
+svfForm (Plain mode) = throughout svfNext (svfOut mode)
+svfForm (Gain mode gain) = throughout svfNext (svfGained mode gain)
 svfForm (Stride mode step) = oneOutput (eachDue step svfNext) (putsDue step (svfOut mode))
-svfForm (Multimode value) = plainly svfNext (svfMultimode value)
+svfForm (Multimode value) = throughout svfNext (svfMultimode value)
 svfForm (Decimate mode step) = absent
 svfForm (Gains mode a b) = twoOutputs svfNext (svfGained mode a) (svfGained mode b)
 svfForm (Pair a b) = twoOutputs svfNext (svfOut a) (svfOut b)
 svfForm Split = absent
 
 abbrev pub naiveForm : RunForm → Form NaiveSvf
-naiveForm (Plain mode) = plainly naiveNext (naiveOut mode)
+naiveForm (Plain mode) = throughout naiveNext (naiveOut mode)
 naiveForm (Gain mode gain) = absent
 naiveForm (Stride mode step) = absent
 naiveForm (Multimode value) = absent
@@ -84,16 +84,16 @@ onlyPlain form Split = absent
 
 -- the DC blocker ignores its mode
 abbrev pub dcForm : RunForm → Form DcBlocker
-dcForm = onlyPlain (λ mode. plainly dcNext dcOut)
+dcForm = onlyPlain (λ mode. throughout dcNext dcOut)
 
 abbrev pub onePoleForm : RunForm → Form OnePoleFilter
-onePoleForm = onlyPlain (λ mode. plainly onePoleNext (onePoleOut mode))
+onePoleForm = onlyPlain (λ mode. throughout onePoleNext (onePoleOut mode))
 
 abbrev pub modifiedForm : RunForm → Form ModifiedSvf
-modifiedForm = onlyPlain (λ mode. plainly (modifiedNext mode) (modifiedOut mode))
+modifiedForm = onlyPlain (λ mode. throughout (modifiedNext mode) (modifiedOut mode))
 
 abbrev pub crossoverForm : RunForm → Form CrossoverSvf
-crossoverForm = onlyPlain (λ mode. plainly (crossoverNext mode) (crossoverOut mode))
+crossoverForm = onlyPlain (λ mode. throughout (crossoverNext mode) (crossoverOut mode))
 
 -- ---- any filter: the state of its own type, which `filter` makes a case, and its form
 
