@@ -18,8 +18,7 @@ fn main() {
     let mut run = 0usize;
     while run < 100000 {
         let ran = frame.run(0, RunForm::Plain(FilterMode::LowPass), &input, &mut out);
-        let next = ran.frame;
-        frame = next;
+        frame = ran.frame;
         run += 1;
     }
     io::print_hex(1, words::f32_to_word(out[255]) as u64, 8);

@@ -1,5 +1,5 @@
-pub mod Turns
-pub mod Tables
+pub mod Calls
+pub mod Refused
 pub mod Sound
 pub mod Picture
 pub mod Upholds

@@ -1,118 +1,52 @@
 -- The numbers of the frame's calls, by their rows. Assumes nothing.
 use Prim.Native.Nat.{ℕ, _≤_, _<_}
-use mathlib.Core.Path.{_≡_, refl}
-use mathlib.Core.Bool.{Bool, true, false, cond}
 use mathlib.Core.List.{List, [], _∷_}
 use native.Mathlib.Omega.{arith}
 use borrow.Author.Tests.{ltb-true, ltb-false, leb-true, leb-false}
 use lib.Dec.{ltb, leb}
-use lib.ListN.{length}
-use lib.Ieee.{Float}
 use Rattle.filter_core.specs.Rows.{First, none, here, later}
 use Rattle.filter_core.proofs.Rows.{exactly}
 use Rattle.sheets.specs.Sheet.{entriesOf}
 use Rattle.sheets.proofs.Rows.{checked}
 use Rattle.library.specs.Library.{libraryOf}
 use Rattle.library.proofs.Rows.{write-by-rows}
-use Rattle.runs.specs.Rows as rows
-use Rattle.runs.specs.declared.RunForm.{RunForm}
-use Rattle.runs.proofs.Rows.{by-rows}
-use Rattle.frame.specs.Call.{Act, load, run, runTwo, rest, mark, back, drop, Call, opening, writing, at}
-use Rattle.frame.specs.History.{Event, HeadHistory, Histories, noHistories, lastType, unlessBare, actNumber, callNumber, advanceAll}
-use Rattle.frame.specs.Rows.{ActCase, no-head, no-entry, bare-run, bare-two, bare-rest, bare-mark, no-back, no-drop, full, no-form, no-form-two, no-step, no-step-two, numbersOf, Row, NumbersByRows}
-use Rattle.frame.proofs.Sound.{SoundHead, Sound, sound-all, sound-none}
+use Rattle.heads.specs.Act.{Act}
+use Rattle.heads.specs.History.{HeadHistory}
+use Rattle.heads.specs.Rows.{ActCase, numbersOf}
+use Rattle.heads.proofs.Rows.{by-test, head-by-rows}
+use Rattle.frame.specs.Call.{Call, opening, writing, loading, at}
+use Rattle.frame.specs.History.{Histories, noHistories, headFirst, loadNumber, callNumber, advanceAll}
+use Rattle.frame.specs.Rows.{AtCase, no-head, of-head, LoadCase, no-entry, Row, NumbersByRows}
+use Rattle.frame.proofs.Sound.{Sound, sound-all, sound-none}
 
-module _ {case : ℕ → Type 0} {ns : List ℕ} {r : ℕ} where
-  -- a number by a test, and else what comes after it
-  by-test : {n : ℕ} (b : Bool) → (b ≡ true → case n) → (b ≡ false → case n → ⊥) → First case ns r → First case (n ∷ ns) (cond b n r)
-  by-test true p q f = here (p refl)
-  by-test false p q f = later (q refl) f
+-- the cases of a call at the head h, from its own
+module _ {h : ℕ} {case : ℕ → Type 0} where
+  own : {n : ℕ} → h ≤ 11 → AtCase h case n → case n
+  own l (no-head m) = absurd (omega arith)
+  own l (of-head p) = p
 
-  by-history : (l : List Event) → (l ≡ [] → case 6) → ((l ≡ [] → ⊥) → case 6 → ⊥) → First case ns r → First case (6 ∷ ns) (unlessBare l r)
-  by-history [] p q f = here (p refl)
-  by-history (i ∷ l) p q f = later (q (λ e. let z : _≡_ {A = ℕ} 0 1 = cc in absurd (omega arith))) f
+  owned : {ns : List ℕ} {r : ℕ} → h ≤ 11 → First case ns r → First (AtCase h case) ns r
+  owned l none = none
+  owned l (here p) = here (of-head p)
+  owned l (later p f) = later (λ q. p (own l q)) (owned l f)
 
-module _ {s : List ℕ} {h : ℕ} {x : HeadHistory} where
-  -- ---- the cases that do not hold
+  -- 1 is the head's alone
+  by-head : {ns : List ℕ} {n : ℕ} → (case 1 → ⊥) → First case ns n → First (AtCase h case) (1 ∷ ns) (headFirst h n)
+  by-head never f =
+      by-test (ltb 11 h) (λ q. no-head (ltb-true 11 h q)) (λ q p. never (own (ltb-false 11 h q) p)) (λ q. owned (ltb-false 11 h q) f)
 
-  head-there : {a : Act} → h ≤ 11 → ActCase s h x a 1 → ⊥
-  head-there l (no-head m) = omega arith
-
-  entry-there : {e : ℕ} → e < entriesOf s → ActCase s h x (load e) 5 → ⊥
-  entry-there l (no-entry m) = omega arith
-
-  back-there : {m : ℕ} → m < length (x .checkpoints) → ActCase s h x (back m) 7 → ⊥
-  back-there l (no-back m) = omega arith
-
-  drop-there : {m : ℕ} → m < length (x .checkpoints) → ActCase s h x (drop m) 7 → ⊥
-  drop-there l (no-drop m) = omega arith
-
-  room : length (x .checkpoints) ≤ 3 → ActCase s h x mark 8 → ⊥
-  room l (full m) = omega arith
-
-  held-run : {form : RunForm} {us ys : List Float} → (x .history ≡ [] → ⊥) → ActCase s h x (run form us ys) 6 → ⊥
-  held-run p (bare-run e) = p e
-
-  held-two : {form : RunForm} {us ys zs : List Float} → (x .history ≡ [] → ⊥) → ActCase s h x (runTwo form us ys zs) 6 → ⊥
-  held-two p (bare-two e) = p e
-
-  held-rest : (x .history ≡ [] → ⊥) → ActCase s h x rest 6 → ⊥
-  held-rest p (bare-rest e) = p e
-
-  held-mark : (x .history ≡ [] → ⊥) → ActCase s h x mark 6 → ⊥
-  held-mark p (bare-mark e) = p e
-
-  -- ---- the forms and the steps, by the rows of a run
-
-  module _ {form : RunForm} {us ys : List Float} where
-    has-form : (rows.RunCase rows.Has (lastType (x .history)) form 9 → ⊥) → ActCase s h x (run form us ys) 9 → ⊥
-    has-form p (no-form m) = p (rows.no-form m)
-
-    has-step : (rows.RunCase rows.Has (lastType (x .history)) form 10 → ⊥) → ActCase s h x (run form us ys) 10 → ⊥
-    has-step p (no-step z) = p (rows.no-step z)
-
-    by-run : {n : ℕ} → First (rows.RunCase rows.Has (lastType (x .history)) form) (9 ∷ 10 ∷ []) n → First (ActCase s h x (run form us ys)) (9 ∷ 10 ∷ []) n
-    by-run (here (rows.no-form m)) = here (no-form m)
-    by-run (later p (here (rows.no-step z))) = later (has-form p) (here (no-step z))
-    by-run (later p (later q none)) = later (has-form p) (later (has-step q) none)
-
-  module _ {form : RunForm} {us ys zs : List Float} where
-    has-form-two : (rows.RunCase rows.HasTwo (lastType (x .history)) form 9 → ⊥) → ActCase s h x (runTwo form us ys zs) 9 → ⊥
-    has-form-two p (no-form-two m) = p (rows.no-form m)
-
-    has-step-two : (rows.RunCase rows.HasTwo (lastType (x .history)) form 10 → ⊥) → ActCase s h x (runTwo form us ys zs) 10 → ⊥
-    has-step-two p (no-step-two z) = p (rows.no-step z)
-
-    by-run-two : {n : ℕ} → First (rows.RunCase rows.HasTwo (lastType (x .history)) form) (9 ∷ 10 ∷ []) n
-        → First (ActCase s h x (runTwo form us ys zs)) (9 ∷ 10 ∷ []) n
-    by-run-two (here (rows.no-form m)) = here (no-form-two m)
-    by-run-two (later p (here (rows.no-step z))) = later (has-form-two p) (here (no-step-two z))
-    by-run-two (later p (later q none)) = later (has-form-two p) (later (has-step-two q) none)
-
--- ---- each call at a head
-
-module _ (s : List ℕ) (h : ℕ) (x : HeadHistory) (S : SoundHead x) where
-  four : ltb 3 (length (x .checkpoints)) ≡ true → length (x .checkpoints) ≡ 4
-  four q = omega (arith, S .four, ltb-true 3 (length (x .checkpoints)) q)
-
-  by-act : (a : Act) → First (ActCase s h x a) (numbersOf a) (actNumber s x a)
-  by-act (load e) = by-test (leb (entriesOf s) e) (λ q. no-entry (leb-true _ _ q)) (λ q. entry-there (leb-false _ _ q)) none
-  by-act (run form us ys) = by-history (x .history) bare-run held-run (by-run (by-rows .one (lastType (x .history)) form .is))
-  by-act (runTwo form us ys zs) = by-history (x .history) bare-two held-two (by-run-two (by-rows .two (lastType (x .history)) form .is))
-  by-act rest = by-history (x .history) bare-rest held-rest none
-  by-act mark =
-      by-history (x .history) bare-mark held-mark (by-test (ltb 3 (length (x .checkpoints))) (λ q. full (four q)) (λ q. room (ltb-false _ _ q)) none)
-  by-act (back m) = by-test (leb (length (x .checkpoints)) m) (λ q. no-back (leb-true _ _ q)) (λ q. back-there (leb-false _ _ q)) none
-  by-act (drop m) = by-test (leb (length (x .checkpoints)) m) (λ q. no-drop (leb-true _ _ q)) (λ q. drop-there (leb-false _ _ q)) none
-
-  by-head : (a : Act) → First (ActCase s h x a) (1 ∷ numbersOf a) (cond (ltb 11 h) 1 (actNumber s x a))
-  by-head a = by-test (ltb 11 h) (λ q. no-head (ltb-true 11 h q)) (λ q. head-there (ltb-false 11 h q)) (by-act a)
+entry-there : {s : List ℕ} {e : ℕ} → e < entriesOf s → LoadCase s e 5 → ⊥
+entry-there l (no-entry m) = omega arith
 
 row : (H : Histories) (c : Call) → Sound H → Row H c (callNumber H c)
 unfolding callNumber
 row H (opening s) S = checked s .sheets
 row H (writing out) S = write-by-rows (libraryOf (H .sheet)) (entriesOf (H .sheet)) (S .sheet .held) out .number
-row H (at h a) S = exactly (by-head (H .sheet) h (H .heads h) (S .each h) a)
+row H (loading h e) S =
+    exactly
+    (by-head (elim [ ])
+    (by-test (leb (entriesOf (H .sheet)) e) (λ q. no-entry (leb-true _ _ q)) (λ q. entry-there (leb-false _ _ q)) (λ q. none)))
+row H (at h a) S = exactly (by-head (elim [ ]) (head-by-rows (H .heads h) a (S .each h) .is))
 
 pub numbers-by-rows : NumbersByRows
 unfolding NumbersByRows

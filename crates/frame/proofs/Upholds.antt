@@ -4,16 +4,19 @@ use mathlib.Core.Path.{_≡_, refl, ap}
 use mathlib.Core.List.{List, [], _∷_}
 use native.Mathlib.Omega.{arith}
 use Rattle.library.proofs.RoundTrip.{no-sheet}
-use Rattle.frame.specs.Table.{table}
+use Rattle.heads.specs.Table.{table}
+use Rattle.heads.specs.History.{Event, snapshotFrom, snapshotOf}
+use Rattle.heads.specs.Follows.{headFor, Fits, bare, held}
+use Rattle.heads.specs.declared.Slot.{Slot}
+use Rattle.heads.specs.declared.Slot.the-variants.{Empty, Holds}
+use Rattle.heads.proofs.Tables.{getD-table, take-table}
+use Rattle.heads.proofs.Follows.{head-follows}
 use Rattle.frame.specs.Calls.{noHead, freshFrame}
 use Rattle.frame.specs.Call.{Call, Reply}
-use Rattle.frame.specs.History.{Event, Histories, noHistories, advance, advanceAll, snapshotFrom, snapshotOf, replyTo, repliesTo}
+use Rattle.frame.specs.History.{Histories, noHistories, advance, advanceAll, replyTo, repliesTo}
 use Rattle.frame.specs.Demand.{repliesFrom, frameAfter, Upheld, Demand3}
-use Rattle.frame.specs.declared.Slot.{Slot}
-use Rattle.frame.specs.declared.Slot.the-variants.{Empty, Holds}
-use Rattle.frame.proofs.Tables.{getD-table, take-table}
-use Rattle.frame.proofs.Sound.{Fits, bare, held, Sound, sound-advance, sound-none}
-use Rattle.frame.proofs.Picture.{headFor, frameFor, follows}
+use Rattle.frame.proofs.Sound.{Sound, sound-advance, sound-none}
+use Rattle.frame.proofs.Picture.{frameFor, follows}
 
 record Followed (H : Histories) (cs : List Call) : Type 0 where
   replies : repliesFrom (frameFor H) cs ≡ repliesTo H cs
@@ -55,8 +58,8 @@ upheld H cs S =
     }
 
 fresh-picture : freshFrame ≡ frameFor noHistories
-unfolding freshFrame table snapshotFrom
-fresh-picture = rw no-sheet refl
+unfolding freshFrame table
+fresh-picture = rw (no-sheet, head-follows .fresh) refl
 
 pub demand3 : Demand3
 unfolding Demand3

@@ -1,44 +1,30 @@
 -- The calls of a frame, with their sheets and buffers as they stood when lent, and what a caller sees of each.
 use Prim.Native.Nat.{ℕ}
 use mathlib.Core.List.{List}
-use lib.Ieee.{Float}
-use Rattle.runs.specs.declared.RunForm.{RunForm}
-
--- what is asked of a head. A run has its input and its outputs
-pub data Act : Type 0 where
-  load : ℕ → Act
-  run : RunForm → List Float → List Float → Act
-  runTwo : RunForm → List Float → List Float → List Float → Act
-  rest : Act
-  mark : Act
-  back : ℕ → Act
-  drop : ℕ → Act
+use Rattle.heads.specs.Act.{Act, HeadReply, headNumber, refusedAct}
 
 pub data Call : Type 0 where
   opening : List ℕ → Call
   writing : List ℕ → Call
+  -- a head and an entry
+  loading : ℕ → ℕ → Call
   at : ℕ → Act → Call
 
--- The number, which is 0 where the call is accepted; the mark's number or the bytes' count, if it answers one; and each lent output as it stands then.
+-- The number, which is 0 where the call is accepted; the count of the bytes, if it writes some, with the lent output as it stands then; or
+-- what a head replies.
 pub data Reply : Type 0 where
-  answered : ℕ → Reply
-  marked : ℕ → ℕ → Reply
-  ran : ℕ → List Float → Reply
-  ranTwo : ℕ → List Float → List Float → Reply
+  plain : ℕ → Reply
   wrote : ℕ → ℕ → List ℕ → Reply
+  acted : HeadReply → Reply
 
--- A refused call answers its number alone, and leaves the outputs as lent.
+abbrev pub numberIn : Reply → ℕ
+numberIn (plain n) = n
+numberIn (wrote n k out) = n
+numberIn (acted r) = headNumber r
 
-abbrev pub refusedAct : ℕ → Act → Reply
-refusedAct n (load e) = answered n
-refusedAct n (run form us ys) = ran n ys
-refusedAct n (runTwo form us ys zs) = ranTwo n ys zs
-refusedAct n rest = answered n
-refusedAct n mark = marked n 0
-refusedAct n (back m) = answered n
-refusedAct n (drop m) = answered n
-
+-- a refused call answers its number alone, and leaves the outputs as lent
 abbrev pub refused : ℕ → Call → Reply
-refused n (opening s) = answered n
+refused n (opening s) = plain n
 refused n (writing out) = wrote n 0 out
-refused n (at h a) = refusedAct n a
+refused n (loading h e) = plain n
+refused n (at h a) = acted (refusedAct n a)

@@ -6,8 +6,9 @@ use lib.ListN.{length, take}
 use Rattle.library.specs.Library.{libraryOf}
 use Rattle.frame.specs.Call.{Call, Reply}
 use Rattle.frame.specs.Calls.{freshFrame, headAt, perform}
-use Rattle.frame.specs.History.{Histories, noHistories, advanceAll, snapshotOf, repliesTo}
-use Rattle.frame.specs.declared.Slot.the-variants.{Empty}
+use Rattle.heads.specs.History.{snapshotOf}
+use Rattle.heads.specs.declared.Slot.the-variants.{Empty}
+use Rattle.frame.specs.History.{Histories, noHistories, advanceAll, repliesTo}
 use Rattle.frame.specs.declared.Frame.{Frame}
 
 -- ---- the calls carried out, each by its contract's own definition, on the frame that the one before handed back

@@ -1,6 +1,6 @@
-pub mod Table
 pub mod Call
 pub mod Calls
+pub mod Refused
 pub mod History
 pub mod Rows
 pub mod Demand

@@ -1,45 +1,19 @@
-// The frame: twelve heads, each empty or with one filter and up to four marks, and one library.
+// The frame: twelve heads and one library.
 // Each call takes the frame by value and hands it back in its answer. A refused call hands it back as it was.
 
-use any_filter::Filter;
-
-mod one_head;
-
+use heads::Head;
+use heads::HeadAnswer;
+use heads::HeadMarked;
 use library::Library;
-use one_head::after_run;
-use one_head::after_run_two;
-use one_head::back_head;
-use one_head::drop_head;
-use one_head::empty_head;
-use one_head::held_by;
-use one_head::holding;
-use one_head::marked_head;
 use runs::RunForm;
 ghost use mathlib.Core.Path.{_≡_};
 ghost use Prim.Native.Nat.{_≤_};
-ghost use Rattle.any_filter.specs.Cases.{typeOf};
-ghost use Rattle.runs.specs.Form.{runRefusal, runTwoRefusal};
-ghost use Rattle.frame.specs.Call.{load, run, runTwo, rest, mark, back, drop, opening, writing, at};
-ghost use Rattle.frame.specs.Calls.{headAt, withHead, withLibrary, numberedAnswer, noMark, Sewn, SewnTwo, freshFrame, perform, plainly, withOutput, withOutputs, withMark, withWritten, showOf};
+ghost use Rattle.heads.specs.Act.{run, runTwo, rest, mark, back, drop};
+ghost use Rattle.frame.specs.Call.{opening, writing, loading, at};
+ghost use Rattle.frame.specs.Calls.{headAt, withHead, numbered, unmarked, settledAnswer, settledMark, freshFrame, perform, plainly, acting, withOutput, withOutputs, withMark, withWritten, showOf};
+ghost use Rattle.frame.specs.Refused.{RefusedLeaves};
 ghost use Rattle.frame.specs.Rows.{NumbersByRows};
 ghost use Rattle.frame.specs.Demand.{Demand3};
-
-pub enum Slot {
-    Empty,
-    Holds(Filter),
-}
-
-// What a mark keeps of a head, and what the head itself holds.
-pub struct Snapshot {
-    pub slot: Slot,
-}
-
-// The places of `marks` from `marked` on are empty.
-pub struct Head {
-    pub now: Snapshot,
-    pub marks: [Snapshot; 4],
-    pub marked: usize,
-}
 
 pub struct Frame {
     pub heads: [Head; 12],
@@ -72,13 +46,20 @@ pub struct Shown {
     pub frame: Frame,
 }
 
-// ---- a frame's parts
-
 fn head_at(frame: Frame, head: usize) -> Head
     requires { ⌜ head ≤ 11 ⌝ }
     ensures { λ r. ⌜ r ≡ headAt frame head ⌝ }
 {
     frame.heads[head]
+}
+
+fn answer_of(number: u8, frame: Frame) -> Answer
+    ensures { λ r. ⌜ r ≡ numbered number frame ⌝ }
+{
+    Answer {
+        number: number,
+        frame: frame,
+    }
 }
 
 fn with_head(mut frame: Frame, head: usize, now: Head) -> Frame
@@ -89,73 +70,24 @@ fn with_head(mut frame: Frame, head: usize, now: Head) -> Frame
     frame
 }
 
-fn with_library(mut frame: Frame, library: Library) -> Frame
-    ensures { λ r. ⌜ r ≡ withLibrary frame library ⌝ }
+// What a head answered, with that head put back. A refused call put back the head that it was given.
+fn settle(frame: Frame, head: usize, a: HeadAnswer) -> Answer
+    requires { ⌜ head ≤ 11 ⌝ }
+    ensures { λ r. ⌜ r ≡ settledAnswer frame head a ⌝ }
 {
-    frame.library = library;
-    frame
+    let after = a.head;
+    answer_of(a.number, with_head(frame, head, after))
 }
 
-// ---- a call's answer
-
-fn refused(frame: Frame, number: u8) -> Answer
-    ensures { λ r. ⌜ r ≡ numberedAnswer number frame ⌝ }
+fn settle_mark(mut frame: Frame, head: usize, a: HeadMarked) -> Marked
+    requires { ⌜ head ≤ 11 ⌝ }
+    ensures { λ r. ⌜ r ≡ settledMark frame head a ⌝ }
 {
-    Answer {
-        number: number,
-        frame: frame,
-    }
-}
-
-fn accepted(frame: Frame) -> Answer
-    ensures { λ r. ⌜ r ≡ numberedAnswer 0 frame ⌝ }
-{
-    Answer {
-        number: 0,
-        frame: frame,
-    }
-}
-
-// The accepted run of a filter that stands in the head h.
-fn sewn(
-    frame: Frame,
-    head: usize,
-    h: Head,
-    filter: Filter,
-    form: RunForm,
-    input: &[f32],
-    output: &mut [f32],
-) -> Answer
-    requires { ⌜ (head ≤ 11) × (runRefusal (typeOf filter) form ≡ 0) ⌝ }
-    ensures { λ r. ⌜ Sewn frame head h filter form (now (input .entry)) (now (output .entry)) r (now (output .exit)) ⌝ }
-{
-    let after = after_run(h, filter, form, input, output);
-    accepted(with_head(frame, head, after))
-}
-
-fn sewn_two(
-    frame: Frame,
-    head: usize,
-    h: Head,
-    filter: Filter,
-    form: RunForm,
-    input: &[f32],
-    first: &mut [f32],
-    second: &mut [f32],
-) -> Answer
-    requires { ⌜ (head ≤ 11) × (runTwoRefusal (typeOf filter) form ≡ 0) ⌝ }
-    ensures { λ r. ⌜ SewnTwo frame head h filter form (now (input .entry)) (now (first .entry)) (now (second .entry)) r (now (first .exit)) (now (second .exit)) ⌝ }
-{
-    let after = after_run_two(h, filter, form, input, first, second);
-    accepted(with_head(frame, head, after))
-}
-
-fn no_mark(frame: Frame, number: u8) -> Marked
-    ensures { λ r. ⌜ r ≡ noMark number frame ⌝ }
-{
+    let after = a.head;
+    frame.heads[head] = after;
     Marked {
-        number: number,
-        mark: 0,
+        number: a.number,
+        mark: a.mark,
         frame: frame,
     }
 }
@@ -166,38 +98,39 @@ impl Frame {
         ensures { λ r. ⌜ r ≡ freshFrame ⌝ }
     {
         Frame {
-            heads: [empty_head(); 12],
+            heads: [Head::empty(); 12],
             library: library::none(),
         }
     }
 
     // Takes a sheet as the library.
-    pub fn open(self, sheet: &[u8]) -> Answer
+    pub fn open(mut self, sheet: &[u8]) -> Answer
         ensures { λ r. ⌜ plainly r ≡ perform self (opening (now (sheet .entry))) ⌝ }
     {
         let reading = library::read(sheet);
         if reading.number != 0 {
-            return refused(self, reading.number);
+            return answer_of(reading.number, self);
         }
         let library = reading.library;
-        accepted(with_library(self, library))
+        self.library = library;
+        answer_of(0, self)
     }
 
-    // Puts the filter of an entry into a head. The settings are copied; the marks stay.
-    pub fn load(self, head: usize, entry: usize) -> Answer
-        ensures { λ r. ⌜ plainly r ≡ perform self (at head (load entry)) ⌝ }
+    // Puts the filter of an entry into a head. The settings are copied; the head's marks stay.
+    pub fn load(mut self, head: usize, entry: usize) -> Answer
+        ensures { λ r. ⌜ plainly r ≡ perform self (loading head entry) ⌝ }
     {
         if 11 < head {
-            return refused(self, 1);
+            return answer_of(1, self);
         }
         let library = self.library;
         let n = library.n;
         if n <= entry {
-            return refused(self, 5);
+            return answer_of(5, self);
         }
-        let filter = loads::filter_of(library::entry_at(library, entry));
-        let h = holding(head_at(self, head), filter);
-        accepted(with_head(self, head, h))
+        let h = head_at(self, head);
+        self.heads[head] = h.load(library::entry_at(library, entry));
+        answer_of(0, self)
     }
 
     // Runs a form with one output.
@@ -205,18 +138,10 @@ impl Frame {
         ensures { λ r. ⌜ withOutput r (now (output .exit)) ≡ perform self (at head (run form (now (input .entry)) (now (output .entry)))) ⌝ }
     {
         if 11 < head {
-            return refused(self, 1);
+            return answer_of(1, self);
         }
         let h = head_at(self, head);
-        let slot = held_by(h);
-        let Slot::Holds(filter) = slot else {
-            return refused(self, 6);
-        };
-        let number = runs::run_refusal(filter, form);
-        if number != 0 {
-            return refused(self, number);
-        }
-        sewn(self, head, h, filter, form, input, output)
+        settle(self, head, h.run(form, input, output))
     }
 
     // Runs a form with two outputs.
@@ -231,34 +156,21 @@ impl Frame {
         ensures { λ r. ⌜ withOutputs r (now (first .exit)) (now (second .exit)) ≡ perform self (at head (runTwo form (now (input .entry)) (now (first .entry)) (now (second .entry)))) ⌝ }
     {
         if 11 < head {
-            return refused(self, 1);
+            return answer_of(1, self);
         }
         let h = head_at(self, head);
-        let slot = held_by(h);
-        let Slot::Holds(filter) = slot else {
-            return refused(self, 6);
-        };
-        let number = runs::run_two_refusal(filter, form);
-        if number != 0 {
-            return refused(self, number);
-        }
-        sewn_two(self, head, h, filter, form, input, first, second)
+        settle(self, head, h.run_two(form, input, first, second))
     }
 
     // Clears what a head's filter retains of past samples.
     pub fn rest(self, head: usize) -> Answer
-        ensures { λ r. ⌜ plainly r ≡ perform self (at head rest) ⌝ }
+        ensures { λ r. ⌜ acting r ≡ perform self (at head rest) ⌝ }
     {
         if 11 < head {
-            return refused(self, 1);
+            return answer_of(1, self);
         }
         let h = head_at(self, head);
-        let slot = held_by(h);
-        let Slot::Holds(filter) = slot else {
-            return refused(self, 6);
-        };
-        let after = holding(h, filter.rest());
-        accepted(with_head(self, head, after))
+        settle(self, head, h.rest())
     }
 
     // Records a head, and answers the mark's number.
@@ -266,56 +178,36 @@ impl Frame {
         ensures { λ r. ⌜ withMark r ≡ perform self (at head mark) ⌝ }
     {
         if 11 < head {
-            return no_mark(self, 1);
+            return Marked {
+                number: 1,
+                mark: 0,
+                frame: self,
+            };
         }
         let h = head_at(self, head);
-        let slot = held_by(h);
-        let Slot::Holds(_) = slot else {
-            return no_mark(self, 6);
-        };
-        let at = h.marked;
-        if 3 < at {
-            return no_mark(self, 8);
-        }
-        Marked {
-            number: 0,
-            mark: at,
-            frame: with_head(self, head, marked_head(h)),
-        }
+        settle_mark(self, head, h.mark())
     }
 
     // Restores mark m, keeps it, and drops those above.
     pub fn back(self, head: usize, m: usize) -> Answer
-        ensures { λ r. ⌜ plainly r ≡ perform self (at head (back m)) ⌝ }
+        ensures { λ r. ⌜ acting r ≡ perform self (at head (back m)) ⌝ }
     {
         if 11 < head {
-            return refused(self, 1);
+            return answer_of(1, self);
         }
         let h = head_at(self, head);
-        if h.marked <= m {
-            return refused(self, 7);
-        }
-        if 3 < m {
-            return refused(self, 7);
-        }
-        accepted(with_head(self, head, back_head(h, m)))
+        settle(self, head, h.back(m))
     }
 
     // Drops mark m and those above. The filter stays.
     pub fn drop(self, head: usize, m: usize) -> Answer
-        ensures { λ r. ⌜ plainly r ≡ perform self (at head (drop m)) ⌝ }
+        ensures { λ r. ⌜ acting r ≡ perform self (at head (drop m)) ⌝ }
     {
         if 11 < head {
-            return refused(self, 1);
+            return answer_of(1, self);
         }
         let h = head_at(self, head);
-        if h.marked <= m {
-            return refused(self, 7);
-        }
-        if 3 < m {
-            return refused(self, 7);
-        }
-        accepted(with_head(self, head, drop_head(h, m)))
+        settle(self, head, h.drop(m))
     }
 
     // Writes the library as a sheet.
@@ -338,7 +230,7 @@ impl Frame {
         if 11 < head {
             return Shown {
                 number: 1,
-                head: empty_head(),
+                head: Head::empty(),
                 frame: self,
             };
         }
@@ -350,6 +242,11 @@ impl Frame {
         }
     }
 }
+
+// Demand 1 of document 01: a call that is not accepted changes nothing.
+pub fn refused_leaves()
+    ensures { λ _. ⌜ RefusedLeaves ⌝ }
+{}
 
 // Each number is answered in its row's case of the refusal table, and in no other.
 pub fn numbers_by_rows()

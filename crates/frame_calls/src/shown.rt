@@ -2,9 +2,9 @@
 
 use any_filter::Filter;
 use any_filter::FilterType;
-use frame::Head;
-use frame::Slot;
-use frame::Snapshot;
+use heads::Head;
+use heads::Slot;
+use heads::Snapshot;
 
 fn word(x: f32, out: &mut [u8], at: usize) -> usize {
     let to = digits::put(b":", out, at);

@@ -1,6 +1,6 @@
 // The text of an answer: the line's keyword, the refusal's number, and what the call hands back.
 
-use frame::Head;
+use heads::Head;
 
 fn wide(b: u8) -> usize {
     b as usize

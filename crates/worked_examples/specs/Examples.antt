@@ -27,7 +27,8 @@ use Rattle.library.specs.Library.{zeroBytes, libraryOf, entryAt}
 use Rattle.any_filter.specs.declared.Filter.the-variants.{Dc}
 use Rattle.loads.specs.Load.{filterOf}
 use Rattle.runs.specs.declared.RunForm.the-variants.{Plain}
-use Rattle.frame.specs.Call.{Call, opening, at, load, run, mark, back, answered, marked, ran}
+use Rattle.heads.specs.Act.{run, mark, back, answered, marked, ran}
+use Rattle.frame.specs.Call.{Call, opening, loading, at, plain, acted}
 use Rattle.frame.specs.History.{noHistories, repliesTo}
 
 -- ---- the numbers
@@ -77,10 +78,10 @@ abbrev pub runOne : Call
 runOne = at 0 (run (Plain LowPass) (oneᶠ ∷ []) (kept ∷ []))
 
 abbrev pub threadBreak : List Call
-threadBreak = opening sheet ∷ at 0 (load 0) ∷ runOne ∷ at 0 mark ∷ runOne ∷ at 0 (back 0) ∷ runOne ∷ []
+threadBreak = opening sheet ∷ loading 0 0 ∷ runOne ∷ at 0 mark ∷ runOne ∷ at 0 (back 0) ∷ runOne ∷ []
 
 abbrev pub lastHead : List Call
-lastHead = opening sheet ∷ at 11 (load 0) ∷ at 12 (load 0) ∷ at 11 mark ∷ at 11 mark ∷ at 11 mark ∷ at 11 mark ∷ at 11 mark ∷ []
+lastHead = opening sheet ∷ loading 11 0 ∷ loading 12 0 ∷ at 11 mark ∷ at 11 mark ∷ at 11 mark ∷ at 11 mark ∷ at 11 mark ∷ []
 
 -- ---- the table
 
@@ -126,11 +127,26 @@ pub record WorkedExamples : Type 0 where
   -- S11 of document 01: the run after the return answers what the run after the mark did
   pub break-replies :
       repliesTo noHistories threadBreak
-      ≡ answered 0 ∷ answered 0 ∷ ran 0 (oneᶠ ∷ []) ∷ marked 0 0 ∷ ran 0 (halfᶠ ∷ []) ∷ answered 0 ∷ ran 0 (halfᶠ ∷ []) ∷ []
+      ≡ plain 0
+      ∷ plain 0
+      ∷ acted (ran 0 (oneᶠ ∷ []))
+      ∷ acted (marked 0 0)
+      ∷ acted (ran 0 (halfᶠ ∷ []))
+      ∷ acted (answered 0)
+      ∷ acted (ran 0 (halfᶠ ∷ []))
+      ∷ []
   -- S12 of document 01: head 12 is refused with 1, the fifth mark with 8; the four before it have the numbers 0 to 3
   pub last-replies :
       repliesTo noHistories lastHead
-      ≡ answered 0 ∷ answered 0 ∷ answered 1 ∷ marked 0 0 ∷ marked 0 1 ∷ marked 0 2 ∷ marked 0 3 ∷ marked 8 0 ∷ []
+      ≡ plain 0
+      ∷ plain 0
+      ∷ plain 1
+      ∷ acted (marked 0 0)
+      ∷ acted (marked 0 1)
+      ∷ acted (marked 0 2)
+      ∷ acted (marked 0 3)
+      ∷ acted (marked 8 0)
+      ∷ []
   -- and Exact at a NaN
   pub tangent-at-nan : tanOf nan Exact ≡ tanOf clipᶠ Exact
   pub sine-at-nan : naiveFrequency nan Exact ≡ naiveFrequency clipᶠ Exact

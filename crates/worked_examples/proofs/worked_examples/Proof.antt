@@ -9,7 +9,8 @@ use Rattle.words.specs.Over.{over}
 use Rattle.library.specs.Library.{zeroBytes}
 use Rattle.runs.specs.Run.{through, firstOutput}
 use Rattle.loads.specs.Load.{filterFor}
-use Rattle.frame.specs.History.{repliesTo, replyTo, advance, callNumber, typeFrom, snapshotFrom}
+use Rattle.heads.specs.History.{typeFrom, snapshotFrom}
+use Rattle.frame.specs.History.{repliesTo, replyTo, advance, callNumber}
 use Rattle.worked_examples.specs.Examples.{WorkedExamples}
 use Rattle.worked_examples.proofs.worked_examples.Statement.{statement}
 use Rattle.worked_examples.proofs.worked_examples.Tie as tie

@@ -1,4 +1,4 @@
-use Rattle.frame.proofs.Turns.{turns}
+use Rattle.frame.proofs.Calls.{calls}
 use Rattle.frame.proofs.Frame.write.Statement.{statement}
 use Rattle.frame.proofs.Frame.write.Tie as tie
 
@@ -6,6 +6,6 @@ pub write-spec : {M : Type 1} → statement M
 write-spec =
     tie.close
     (tie.spec
-    (λ c κs. search turns)
-    (λ c. search turns)
-    (λ c. search turns))
+    (λ c κs. search calls)
+    (λ c. search calls)
+    (λ c. search calls))

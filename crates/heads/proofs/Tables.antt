@@ -6,7 +6,7 @@ use mathlib.Core.List.{List, [], _∷_, map}
 use native.Mathlib.Omega.{arith}
 use lib.ListN.{length, getD, take, set}
 use lib.Dec.{eqb, eqb·suc-suc, eqb·zero-suc, eqb·suc-zero}
-use Rattle.frame.specs.Table.{table}
+use Rattle.heads.specs.Table.{table}
 
 module _ {A : Type 0} where
   pub getD-table : (n : ℕ) (f : ℕ → A) (i : ℕ) (d : A) → i < n → getD (table n f) i d ≡ f i

@@ -1,10 +1,11 @@
-use Rattle.frame.specs.Table.{table}
+use Rattle.heads.specs.Head.{marksBelow}
+use Rattle.heads.specs.Table.{table}
 use borrow.Author.Needs.{needs}
-use Rattle.frame.proofs.one_head.marks_below.Statement.{statement}
-use Rattle.frame.proofs.one_head.marks_below.Tie as tie
+use Rattle.heads.proofs.marks.marks_below.Statement.{statement}
+use Rattle.heads.proofs.marks.marks_below.Tie as tie
 
 returns : tie.Need-returns
-unfolding table
+unfolding table marksBelow
 returns c = rw (c .before .before .before .before .before .before .only-if .ensures, c .before .before .before .before .only-if2 .ensures, c .before .before .only-if3 .ensures, c .only-if4 .ensures)
 
 pub marks-below-spec : {M : Type 1} → statement M

@@ -1,0 +1,120 @@
+-- What each call comes to in each of its cases, over plain values: the functions' proofs hand their facts to these. Assumes nothing.
+use Prim.Native.Nat.{ℕ, _≤_, _<_}
+use mathlib.Core.Path.{_≡_, refl, ap}
+use mathlib.Core.List.{List}
+use borrow.Author.Needs.{needs}
+use borrow.Author.Tests.{lt-ltb, le-ltb, le-leb, lt-leb}
+use lib.ListN.{replicate}
+use lib.Ieee.{Float}
+use Rattle.filter_core.proofs.Refusals.{refusing, accepting}
+use Rattle.sheets.specs.declared.entry.Entry.{Entry}
+use Rattle.library.specs.Library.{none, readOf, entryAt, writeOf, writtenOf}
+use Rattle.library.specs.declared.Library.{Library}
+use Rattle.library.specs.declared.Reading.{Reading}
+use Rattle.library.specs.declared.Written.{Written}
+use Rattle.runs.specs.declared.RunForm.{RunForm}
+use Rattle.heads.specs.Act.{Act, run, runTwo, rest, mark, back, drop}
+use Rattle.heads.specs.Head as head
+use Rattle.heads.specs.Head.{emptyHead, loaded, Turned, turn}
+use Rattle.heads.specs.declared.Head.{Head}
+use Rattle.heads.specs.declared.HeadAnswer.{HeadAnswer}
+use Rattle.heads.specs.declared.HeadMarked.{HeadMarked}
+use Rattle.frame.specs.Call.{opening, writing, loading, at}
+use Rattle.frame.specs.Calls.{headAt, withHead, withLibrary, freshFrame, refuse, settled, perform, numbered, settledAnswer, settledMark, plainly, acting, withOutput, withOutputs, withMark, withWritten, showOf}
+use Rattle.frame.specs.declared.Frame.{Frame}
+use Rattle.frame.specs.declared.Answer.{Answer}
+use Rattle.frame.specs.declared.Marked.{Marked}
+use Rattle.frame.specs.declared.Shown.{Shown}
+
+pub fresh : (y : Head) (l : Library) → y ≡ emptyHead → l ≡ none → _≡_ {A = Frame} (record { heads = replicate 12 y; library = l }) freshFrame
+unfolding freshFrame
+fresh y l e p = rw (e, p) refl
+
+module _ (f : Frame) (s : List ℕ) (t : Reading) (e : t ≡ readOf s) (r : Answer) where
+  pub open-refused : (t .number ≡ 0 → ⊥) → r ≡ numbered (t .number) f → plainly r ≡ perform f (opening s)
+  unfolding perform
+  open-refused z q = rw (q, refusing _ _ (ap (λ (k : Reading). k .number) e) z, e) refl
+
+  pub open-accepted : t .number ≡ 0 → r ≡ numbered 0 (withLibrary f (t .library)) → plainly r ≡ perform f (opening s)
+  unfolding perform
+  open-accepted z q = let ok = accepting _ _ (ap (λ (k : Reading). k .number) e) z in rw (q, ok, rw ok at e) refl
+
+pub written : (f : Frame) (out out′ : List ℕ) (w : Written) → w ≡ writeOf (f .library) out → out′ ≡ writtenOf (f .library) out
+    → withWritten (record { number = w .number; length = w .length; frame = f }) out′ ≡ perform f (writing out)
+unfolding perform
+written f out out′ w e o = rw (e, o) refl
+
+module _ (f : Frame) (h : ℕ) where
+  -- ---- a load
+
+  module _ (e : ℕ) (r : Answer) where
+    pub load-head : 11 < h → r ≡ numbered 1 f → plainly r ≡ perform f (loading h e)
+    unfolding perform
+    load-head l q = rw (q, lt-ltb _ _ l) refl
+
+    pub load-entry : h ≤ 11 → f .library .n ≤ e → r ≡ numbered 5 f → plainly r ≡ perform f (loading h e)
+    unfolding perform
+    load-entry l m q = rw (q, le-ltb _ _ l, le-leb _ _ m) refl
+
+    pub load-accepted : (y x : Head) (t : Entry) → h ≤ 11 → e < f .library .n → y ≡ headAt f h → t ≡ entryAt (f .library) e → x ≡ loaded y t
+        → r ≡ numbered 0 (withHead f h x) → plainly r ≡ perform f (loading h e)
+    unfolding perform
+    load-accepted y x t l m b p i q = rw (q, i, p, b, le-ltb _ _ l, lt-leb _ _ m) refl
+
+  -- ---- any other call at a head: above the last, or what the head does
+
+  above : (a : Act) → 11 < h → perform f (at h a) ≡ refuse f (at h a) 1
+  unfolding perform
+  above a l = rw (lt-ltb _ _ l) refl
+
+  below : (a : Act) (y : Head) (t : Turned) → h ≤ 11 → y ≡ headAt f h → t ≡ turn y a → settled f h t ≡ perform f (at h a)
+  unfolding perform
+  below a y t l b e = rw (le-ltb _ _ l, e, b) refl
+
+  module _ (r : Answer) (q : r ≡ numbered 1 f) (l : 11 < h) where
+    pub rest-head : acting r ≡ perform f (at h rest)
+    rest-head = rw (q, above rest l) refl
+
+    pub back-head : (m : ℕ) → acting r ≡ perform f (at h (back m))
+    back-head m = rw (q, above (back m) l) refl
+
+    pub drop-head : (m : ℕ) → acting r ≡ perform f (at h (drop m))
+    drop-head m = rw (q, above (drop m) l) refl
+
+    pub run-head : (form : RunForm) (us ys : List Float) → withOutput r ys ≡ perform f (at h (run form us ys))
+    run-head form us ys = rw (q, above (run form us ys) l) refl
+
+    pub two-head : (form : RunForm) (us ys zs : List Float) → withOutputs r ys zs ≡ perform f (at h (runTwo form us ys zs))
+    two-head form us ys zs = rw (q, above (runTwo form us ys zs) l) refl
+
+  pub mark-head : 11 < h → withMark (record { number = 1; mark = 0; frame = f }) ≡ perform f (at h mark)
+  mark-head l = rw (above mark l) refl
+
+  module _ (y : Head) (l : h ≤ 11) (b : y ≡ headAt f h) where
+    module _ (q : HeadAnswer) (r : Answer) (s : r ≡ settledAnswer f h q) where
+      pub acts : (a : Act) → head.plainly q ≡ turn y a → acting r ≡ perform f (at h a)
+      acts a e = rw s (below a y (head.plainly q) l b e)
+
+      pub runs : (form : RunForm) (us ys ys′ : List Float) → head.withOutput q ys′ ≡ turn y (run form us ys) → withOutput r ys′ ≡ perform f (at h (run form us ys))
+      runs form us ys ys′ e = rw s (below (run form us ys) y (head.withOutput q ys′) l b e)
+
+      pub runs-two : (form : RunForm) (us ys zs ys′ zs′ : List Float) → head.withOutputs q ys′ zs′ ≡ turn y (runTwo form us ys zs)
+          → withOutputs r ys′ zs′ ≡ perform f (at h (runTwo form us ys zs))
+      runs-two form us ys zs ys′ zs′ e = rw s (below (runTwo form us ys zs) y (head.withOutputs q ys′ zs′) l b e)
+
+    pub marks : (q : HeadMarked) (r : Marked) → r ≡ settledMark f h q → head.withMark q ≡ turn y mark → withMark r ≡ perform f (at h mark)
+    marks q r s e = rw s (below mark y (head.withMark q) l b e)
+
+  -- ---- show
+
+  pub show-head : (y : Head) → 11 < h → y ≡ emptyHead → _≡_ {A = Shown} (record { number = 1; head = y; frame = f }) (showOf f h)
+  unfolding showOf
+  show-head y l e = rw (e, lt-ltb _ _ l) refl
+
+  pub show-accepted : (y : Head) → h ≤ 11 → y ≡ headAt f h → _≡_ {A = Shown} (record { number = 0; head = y; frame = f }) (showOf f h)
+  unfolding showOf
+  show-accepted y l e = rw (e, le-ltb _ _ l) refl
+
+-- what `search` is handed at each return of a call
+pub ruleset calls =
+    (fresh, open-refused, open-accepted, written, load-head, load-entry, load-accepted, rest-head, back-head, drop-head, run-head, two-head, mark-head, acts, runs, runs-two, marks, show-head, show-accepted, needs)

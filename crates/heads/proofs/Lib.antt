@@ -1,0 +1,6 @@
+pub mod Tables
+pub mod Turns
+pub mod Sound
+pub mod Follows
+pub mod Rows
+pub mod Refused

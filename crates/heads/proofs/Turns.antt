@@ -1,0 +1,130 @@
+-- What each call comes to in each of its cases, over plain values: the functions' proofs hand their facts to these. Assumes nothing.
+use Prim.Native.Nat.{ℕ, _+_, _≤_, _<_}
+use mathlib.Core.Path.{_≡_, refl}
+use mathlib.Core.List.{List}
+use borrow.Author.Needs.{needs}
+use borrow.Author.Tests.{lt-ltb, le-ltb, le-leb, lt-leb}
+use lib.ListN.{replicate}
+use lib.Ieee.{Float}
+use Rattle.filter_core.specs.Buffer.{within}
+use Rattle.filter_core.proofs.Refusals.{refusing, accepting}
+use Rattle.sheets.specs.declared.entry.Entry.{Entry}
+use Rattle.loads.specs.Load.{filterOf}
+use Rattle.any_filter.specs.Cases.{typeOf, rested}
+use Rattle.any_filter.specs.declared.Filter.{Filter}
+use Rattle.runs.specs.Form.{runRefusal, runTwoRefusal}
+use Rattle.runs.specs.Run.{Ran, RanTwo}
+use Rattle.runs.specs.declared.RunForm.{RunForm}
+use Rattle.heads.specs.Act.{mark, back, drop}
+use Rattle.heads.specs.Snapshot.{emptySnapshot, holds, loadedWith, runSewn, runTwoSewn, restSewn, sewn, sewnPlainly, sewnWith, sewnWithTwo}
+use Rattle.heads.specs.Head.{emptyHead, lastMark, markedHead, nextMark, marksBelow, restored, turn, numbered, unmarked, plainly, withMark}
+use Rattle.heads.specs.declared.Slot.{Slot}
+use Rattle.heads.specs.declared.Slot.the-variants.{Empty, Holds}
+use Rattle.heads.specs.declared.Snapshot.{Snapshot}
+use Rattle.heads.specs.declared.SnapshotAnswer.{SnapshotAnswer}
+use Rattle.heads.specs.declared.Head.{Head}
+use Rattle.heads.specs.declared.HeadAnswer.{HeadAnswer}
+use Rattle.heads.specs.declared.HeadMarked.{HeadMarked}
+
+pub fresh : (s : Snapshot) → s ≡ emptySnapshot → _≡_ {A = Head} (record { now = s; marks = replicate 4 s; marked = 0 }) emptyHead
+unfolding emptyHead
+fresh s e = rw e refl
+
+pub loading : (e : Entry) (k : Filter) (r : Snapshot) → k ≡ filterOf e → r ≡ holds k → r ≡ loadedWith e
+loading e k r u q = rw (q, u) refl
+
+-- ---- what the head holds
+
+module _ (x : Snapshot) where
+  module _ (e : x .slot ≡ Empty) where
+    pub rest-bare : (r : SnapshotAnswer) → r ≡ sewn 6 x → sewnPlainly r ≡ restSewn x
+    unfolding restSewn
+    rest-bare r q = rw (q, e) refl
+
+    pub run-bare : (form : RunForm) (us ys : List Float) (r : SnapshotAnswer) → r ≡ sewn 6 x → sewnWith r ys ≡ runSewn x form us ys
+    unfolding runSewn
+    run-bare form us ys r q = rw (q, e) refl
+
+    pub two-bare : (form : RunForm) (us ys zs : List Float) (r : SnapshotAnswer) → r ≡ sewn 6 x → sewnWithTwo r ys zs ≡ runTwoSewn x form us ys zs
+    unfolding runTwoSewn
+    two-bare form us ys zs r q = rw (q, e) refl
+
+  -- k is the filter that the call leaves, y the snapshot with it
+  module _ (p : Filter) (e : x .slot ≡ Holds p) where
+    pub rest-accepted : (k : Filter) (y : Snapshot) (r : SnapshotAnswer) → k ≡ rested p → y ≡ holds k → r ≡ sewn 0 y → sewnPlainly r ≡ restSewn x
+    unfolding restSewn
+    rest-accepted k y r u i q = rw (q, i, u, e) refl
+
+    module _ (form : RunForm) (us ys : List Float) (n : ℕ) (d : n ≡ runRefusal (typeOf p) form) (r : SnapshotAnswer) where
+      pub run-refused : (n ≡ 0 → ⊥) → r ≡ sewn n x → sewnWith r ys ≡ runSewn x form us ys
+      unfolding runSewn
+      run-refused z q = rw (q, e, refusing _ _ d z, d) refl
+
+      pub run-accepted : (k : Filter) (ys′ : List Float) (y : Snapshot) → n ≡ 0 → Ran p form (within us ys) ys k ys′ → y ≡ holds k → r ≡ sewn 0 y
+          → sewnWith r ys′ ≡ runSewn x form us ys
+      unfolding runSewn
+      run-accepted k ys′ y z a i q =
+          let t = accepting _ _ d z in
+          let u = rw t at (a .filter-is) in
+          let v = rw t at (a .output-is) in rw (q, i, u, v, e, t) refl
+
+    module _ (form : RunForm) (us ys zs : List Float) (n : ℕ) (d : n ≡ runTwoRefusal (typeOf p) form) (r : SnapshotAnswer) where
+      pub two-refused : (n ≡ 0 → ⊥) → r ≡ sewn n x → sewnWithTwo r ys zs ≡ runTwoSewn x form us ys zs
+      unfolding runTwoSewn
+      two-refused z q = rw (q, e, refusing _ _ d z, d) refl
+
+      pub two-accepted : (k : Filter) (ys′ zs′ : List Float) (y : Snapshot) → n ≡ 0 → RanTwo p form (within (within us ys) zs) ys zs k ys′ zs′
+          → y ≡ holds k → r ≡ sewn 0 y → sewnWithTwo r ys′ zs′ ≡ runTwoSewn x form us ys zs
+      unfolding runTwoSewn
+      two-accepted k ys′ zs′ y z a i q =
+          let t = accepting _ _ d z in
+          let u = rw t at (a .filter-is) in
+          let v = rw t at (a .first-is) in
+          let w = rw t at (a .second-is) in rw (q, i, u, v, w, e, t) refl
+
+-- ---- marks
+
+module _ (x : Head) where
+  pub mark-bare : (r : HeadMarked) → x .now .slot ≡ Empty → r ≡ unmarked 6 x → withMark r ≡ turn x mark
+  unfolding turn
+  mark-bare r e q = rw (q, e) refl
+
+  module _ (p : Filter) (e : x .now .slot ≡ Holds p) where
+    pub mark-full : (r : HeadMarked) → lastMark < x .marked → r ≡ unmarked 8 x → withMark r ≡ turn x mark
+    unfolding turn
+    mark-full r m q = rw (q, e, lt-ltb _ _ m) refl
+
+    pub mark-accepted : x .marked ≤ lastMark → withMark (record { number = 0; mark = nextMark x; head = markedHead x }) ≡ turn x mark
+    unfolding turn
+    mark-accepted m = rw (e, le-ltb _ _ m) refl
+
+  module _ (m : ℕ) (r : HeadAnswer) where
+    pub back-none : x .marked ≤ m → r ≡ numbered 7 x → plainly r ≡ turn x (back m)
+    unfolding turn
+    back-none n q = rw (q, le-leb _ _ n) refl
+
+    pub back-past : m < x .marked → lastMark < m → r ≡ numbered 7 x → plainly r ≡ turn x (back m)
+    unfolding turn
+    back-past n k q = rw (q, lt-leb _ _ n, lt-ltb _ _ k) refl
+
+    pub back-accepted : (ms : List Snapshot) → m < x .marked → m ≤ lastMark → ms ≡ marksBelow (m + 1) (x .marks)
+        → r ≡ numbered 0 (record { now = restored x m; marks = ms; marked = m + 1 }) → plainly r ≡ turn x (back m)
+    unfolding turn
+    back-accepted ms n k w q = rw (q, w, lt-leb _ _ n, le-ltb _ _ k) refl
+
+    pub drop-none : x .marked ≤ m → r ≡ numbered 7 x → plainly r ≡ turn x (drop m)
+    unfolding turn
+    drop-none n q = rw (q, le-leb _ _ n) refl
+
+    pub drop-past : m < x .marked → lastMark < m → r ≡ numbered 7 x → plainly r ≡ turn x (drop m)
+    unfolding turn
+    drop-past n k q = rw (q, lt-leb _ _ n, lt-ltb _ _ k) refl
+
+    pub drop-accepted : (ms : List Snapshot) → m < x .marked → m ≤ lastMark → ms ≡ marksBelow m (x .marks)
+        → r ≡ numbered 0 (record { now = x .now; marks = ms; marked = m }) → plainly r ≡ turn x (drop m)
+    unfolding turn
+    drop-accepted ms n k w q = rw (q, w, lt-leb _ _ n, le-ltb _ _ k) refl
+
+-- what `search` is handed at each return of a call
+pub ruleset turns =
+    (fresh, loading, rest-bare, run-bare, two-bare, rest-accepted, run-refused, run-accepted, two-refused, two-accepted, mark-bare, mark-full, mark-accepted, back-none, back-past, back-accepted, drop-none, drop-past, drop-accepted, needs)

@@ -1,0 +1,7 @@
+pub mod Table
+pub mod Act
+pub mod Snapshot
+pub mod Head
+pub mod History
+pub mod Follows
+pub mod Rows

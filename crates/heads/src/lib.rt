@@ -1,0 +1,245 @@
+// A head: empty or with one filter, and up to four marks to go back to.
+// Each call takes the head by value and hands it back in its answer. A refused call hands it back as it was.
+
+mod marks;
+
+use any_filter::Filter;
+use marks::empty_snapshot;
+use marks::marks_below;
+use runs::RunForm;
+use sheets::Entry;
+ghost use mathlib.Core.Path.{_≡_};
+ghost use Rattle.heads.specs.Act.{mark, back, drop};
+ghost use Rattle.heads.specs.Snapshot.{holds, loadedWith, runSewn, runTwoSewn, restSewn, sewn, sewnPlainly, sewnWith, sewnWithTwo};
+ghost use Rattle.heads.specs.Head.{emptyHead, holding, turn, numbered, unmarked, plainly, withMark};
+ghost use Rattle.heads.specs.Follows.{HeadFollows};
+ghost use Rattle.heads.specs.Rows.{HeadByRows};
+
+pub enum Slot {
+    Empty,
+    Holds(Filter),
+}
+
+// What a mark keeps of a head, and what the head itself holds.
+pub struct Snapshot {
+    pub slot: Slot,
+}
+
+// The places of `marks` from `marked` on are empty, so that a head is one value.
+pub struct Head {
+    pub now: Snapshot,
+    pub marks: [Snapshot; 4],
+    pub marked: usize,
+}
+
+// The number is 0, or that of the refusal.
+pub struct SnapshotAnswer {
+    pub number: u8,
+    pub now: Snapshot,
+}
+
+pub struct HeadAnswer {
+    pub number: u8,
+    pub head: Head,
+}
+
+// The number of the mark, which is 0 where the call is refused.
+pub struct HeadMarked {
+    pub number: u8,
+    pub mark: usize,
+    pub head: Head,
+}
+
+fn holds(filter: Filter) -> Snapshot
+    ensures { λ r. ⌜ r ≡ holds filter ⌝ }
+{
+    Snapshot {
+        slot: Slot::Holds(filter),
+    }
+}
+
+fn snapshot_answer(number: u8, now: Snapshot) -> SnapshotAnswer
+    ensures { λ r. ⌜ r ≡ sewn number now ⌝ }
+{
+    SnapshotAnswer {
+        number: number,
+        now: now,
+    }
+}
+
+fn head_answer(number: u8, head: Head) -> HeadAnswer
+    ensures { λ r. ⌜ r ≡ numbered number head ⌝ }
+{
+    HeadAnswer {
+        number: number,
+        head: head,
+    }
+}
+
+fn no_mark(number: u8, head: Head) -> HeadMarked
+    ensures { λ r. ⌜ r ≡ unmarked number head ⌝ }
+{
+    HeadMarked {
+        number: number,
+        mark: 0,
+        head: head,
+    }
+}
+
+// The calls that change what a head holds and leave its marks.
+impl Snapshot {
+    // The filter of an entry. The settings are copied, so that a library opened later alters nothing here.
+    pub fn loaded(entry: Entry) -> Snapshot
+        ensures { λ r. ⌜ r ≡ loadedWith entry ⌝ }
+    {
+        holds(loads::filter_of(entry))
+    }
+
+    // Runs a form with one output.
+    pub fn run(self, form: RunForm, input: &[f32], output: &mut [f32]) -> SnapshotAnswer
+        ensures { λ r. ⌜ sewnWith r (now (output .exit)) ≡ runSewn self form (now (input .entry)) (now (output .entry)) ⌝ }
+    {
+        let slot = self.slot;
+        let Slot::Holds(filter) = slot else {
+            return snapshot_answer(6, self);
+        };
+        let number = runs::run_refusal(filter, form);
+        if number != 0 {
+            return snapshot_answer(number, self);
+        }
+        snapshot_answer(0, holds(runs::run(filter, form, input, output)))
+    }
+
+    // Runs a form with two outputs.
+    pub fn run_two(
+        self,
+        form: RunForm,
+        input: &[f32],
+        first: &mut [f32],
+        second: &mut [f32],
+    ) -> SnapshotAnswer
+        ensures { λ r. ⌜ sewnWithTwo r (now (first .exit)) (now (second .exit)) ≡ runTwoSewn self form (now (input .entry)) (now (first .entry)) (now (second .entry)) ⌝ }
+    {
+        let slot = self.slot;
+        let Slot::Holds(filter) = slot else {
+            return snapshot_answer(6, self);
+        };
+        let number = runs::run_two_refusal(filter, form);
+        if number != 0 {
+            return snapshot_answer(number, self);
+        }
+        snapshot_answer(0, holds(runs::run_two(filter, form, input, first, second)))
+    }
+
+    // Clears what the filter retains of past samples.
+    pub fn rest(self) -> SnapshotAnswer
+        ensures { λ r. ⌜ sewnPlainly r ≡ restSewn self ⌝ }
+    {
+        let slot = self.slot;
+        let Slot::Holds(filter) = slot else {
+            return snapshot_answer(6, self);
+        };
+        snapshot_answer(0, holds(filter.rest()))
+    }
+}
+
+impl Head {
+    pub fn empty() -> Head
+        ensures { λ r. ⌜ r ≡ emptyHead ⌝ }
+    {
+        let s = empty_snapshot();
+        Head {
+            now: s,
+            marks: [s; 4],
+            marked: 0,
+        }
+    }
+
+    // The head with something else in it. Its marks stay.
+    pub fn holding(mut self, now: Snapshot) -> Head
+        ensures { λ r. ⌜ r ≡ holding self now ⌝ }
+    {
+        self.now = now;
+        self
+    }
+
+    // Records what the head holds, and answers the mark's number.
+    pub fn mark(self) -> HeadMarked
+        ensures { λ r. ⌜ withMark r ≡ turn self mark ⌝ }
+    {
+        let now = self.now;
+        let slot = now.slot;
+        let Slot::Holds(_) = slot else {
+            return no_mark(6, self);
+        };
+        let at = self.marked;
+        if 3 < at {
+            return no_mark(8, self);
+        }
+        let mut marks = self.marks;
+        marks[at] = now;
+        HeadMarked {
+            number: 0,
+            mark: at,
+            head: Head {
+                now: now,
+                marks: marks,
+                marked: at + 1,
+            },
+        }
+    }
+
+    // Restores mark m, keeps it, and drops those above.
+    pub fn back(self, m: usize) -> HeadAnswer
+        ensures { λ r. ⌜ plainly r ≡ turn self (back m) ⌝ }
+    {
+        if self.marked <= m {
+            return head_answer(7, self);
+        }
+        if 3 < m {
+            return head_answer(7, self);
+        }
+        let marks = self.marks;
+        let old = marks[m];
+        head_answer(
+            0,
+            Head {
+                now: old,
+                marks: marks_below(m + 1, marks),
+                marked: m + 1,
+            },
+        )
+    }
+
+    // Drops mark m and those above. What the head holds stays.
+    pub fn drop(self, m: usize) -> HeadAnswer
+        ensures { λ r. ⌜ plainly r ≡ turn self (drop m) ⌝ }
+    {
+        if self.marked <= m {
+            return head_answer(7, self);
+        }
+        if 3 < m {
+            return head_answer(7, self);
+        }
+        let now = self.now;
+        let marks = self.marks;
+        head_answer(
+            0,
+            Head {
+                now: now,
+                marks: marks_below(m, marks),
+                marked: m,
+            },
+        )
+    }
+}
+
+// Under every call a head is the picture of its history.
+pub fn head_follows()
+    ensures { λ _. ⌜ HeadFollows ⌝ }
+{}
+
+// Each number is answered in its row's case of the refusal table, and in no other.
+pub fn head_by_rows()
+    ensures { λ _. ⌜ HeadByRows ⌝ }
+{}
