@@ -10,7 +10,7 @@ use borrow.Author.Needs.{needs}
 use borrow.Author.Tests.{lt-ltb, le-ltb, eqb-true, eqb-false}
 use lib.Dec.{eqb}
 use lib.ListN.{length, getD}
-use Rattle.digits.specs.Table.{firsts, every}
+use Rattle.digits.specs.Every.{firsts, every}
 use Rattle.digits.specs.Decimal.{digitOf, isDigit, valueTo, numberOf}
 use Rattle.digits.specs.Hex.{hexDigit, isHex, allHex, pairOf, byteFrom}
 use Rattle.digits.specs.declared.decimal.Number.the-variants.{Is, Bad}

@@ -4,7 +4,7 @@ use mathlib.Core.Bool.{Bool, cond}
 use mathlib.Core.List.{List}
 use lib.Dec.{ltb}
 use lib.ListN.{length, getD}
-use Rattle.digits.specs.Table.{every}
+use Rattle.digits.specs.Every.{every}
 use Rattle.digits.specs.declared.decimal.Number.{Number}
 use Rattle.digits.specs.declared.decimal.Number.the-variants.{Is, Bad}
 

@@ -5,8 +5,9 @@ use mathlib.Core.List.{List}
 use lib.Dec.{ltb}
 use lib.Ieee.{Float, binary32, ofBits}
 use lib.ListN.{length, getD}
+use Rattle.lists.specs.Table.{table}
 use Rattle.words.specs.Word.{wordOf}
-use Rattle.digits.specs.Table.{every, table}
+use Rattle.digits.specs.Every.{every}
 
 -- the value of a digit's byte, 16 for another byte: 0 to 9, A to F, a to f
 abbrev pub hexDigit : ℕ → ℕ

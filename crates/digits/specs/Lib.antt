@@ -1,4 +1,4 @@
-pub mod Table
+pub mod Every
 pub mod Decimal
 pub mod Hex
 pub mod Place

@@ -1,22 +1,14 @@
--- A list put over another from a place on, as far as there is room.
-use Prim.Native.Nat.{ℕ, _+_, _-_, _≤_, min}
+-- A list put over another, with the place behind it; and a count of a list's first places.
+use Prim.Native.Nat.{ℕ, _+_, _≤_}
 use mathlib.Core.Path.{_≡_}
 use mathlib.Core.List.{List}
 use lib.ListN.{length, take}
-use lib.Seq.{paste}
-
--- how many of xs have room in ys from the place `at` on
-abbrev pub room : {A : Type 0} → List A → ℕ → List A → ℕ
-room xs at ys = min (length xs) (length ys - at)
-
--- ys with them there: places before and behind keep their contents
-abbrev pub placed : {A : Type 0} → List A → ℕ → List A → List A
-placed xs at ys = paste ys at xs (room xs at ys)
+use Rattle.lists.specs.Over.{room, over}
 
 -- zs is ys with xs put over it from the place `at` on, and r the place behind
-pub record Puts {A : Type 0} (xs : List A) (at : ℕ) (ys : List A) (r : ℕ) (zs : List A) : Type 0 where
-  pub list : zs ≡ placed xs at ys
-  pub place : r ≡ at + room xs at ys
+pub record Puts {A : Type 0} (at : ℕ) (xs ys : List A) (r : ℕ) (zs : List A) : Type 0 where
+  pub list : zs ≡ over at xs ys
+  pub place : r ≡ at + room at xs ys
 
 -- n counts places at the start of xs. The second part follows from the first, and is what lending the first n asks
 abbrev pub Counts : {A : Type 0} → ℕ → List A → Type 0

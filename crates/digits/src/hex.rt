@@ -82,7 +82,7 @@ pub fn sample(s: &[u8], at: usize) -> f32
 
 // The bytes of the text, as far as `out` has places; the answer counts them.
 pub fn bytes(s: &[u8], out: &mut [u8]) -> usize
-    ensures { λ r. ⌜ Puts (bytesOf (now (s .entry))) 0 (now (out .entry)) r (now (out .exit)) ⌝ }
+    ensures { λ r. ⌜ Puts 0 (bytesOf (now (s .entry))) (now (out .entry)) r (now (out .exit)) ⌝ }
     ensures { λ r. ⌜ Counts r (now (out .exit)) ⌝ }
 {
     let n = filter_core::shortest(s.len() / 2, out.len());
@@ -96,7 +96,7 @@ pub fn bytes(s: &[u8], out: &mut [u8]) -> usize
 
 // The samples of the text, likewise.
 pub fn samples(s: &[u8], out: &mut [f32]) -> usize
-    ensures { λ r. ⌜ Puts (samplesOf (now (s .entry))) 0 (now (out .entry)) r (now (out .exit)) ⌝ }
+    ensures { λ r. ⌜ Puts 0 (samplesOf (now (s .entry))) (now (out .entry)) r (now (out .exit)) ⌝ }
     ensures { λ r. ⌜ Counts r (now (out .exit)) ⌝ }
 {
     let n = filter_core::shortest(s.len() / 8, out.len());

@@ -7,18 +7,13 @@ ghost use Rattle.digits.specs.Place.{Puts};
 ghost use Rattle.digits.specs.Text.{glyphOf, byteText, wordText, bytesText, samplesText};
 
 pub fn put(text: &[u8], out: &mut [u8], at: usize) -> usize
-    ensures { λ r. ⌜ Puts (now (text .entry)) at (now (out .entry)) r (now (out .exit)) ⌝ }
+    ensures { λ r. ⌜ Puts at (now (text .entry)) (now (out .entry)) r (now (out .exit)) ⌝ }
 {
+    lists::copy(text, out, at);
     if out.len() <= at {
         return at;
     }
-    let n = filter_core::shortest(text.len(), out.len() - at);
-    let mut i = 0usize;
-    while i < n {
-        out[at + i] = text[i];
-        i += 1;
-    }
-    at + n
+    at + filter_core::shortest(text.len(), out.len() - at)
 }
 
 fn glyph(d: u32) -> u8
@@ -61,7 +56,7 @@ fn word_text(w: u32) -> [u8; 8]
 }
 
 pub fn put_word(x: f32, out: &mut [u8], at: usize) -> usize
-    ensures { λ r. ⌜ Puts (wordText (toBits binary32 x)) at (now (out .entry)) r (now (out .exit)) ⌝ }
+    ensures { λ r. ⌜ Puts at (wordText (toBits binary32 x)) (now (out .entry)) r (now (out .exit)) ⌝ }
 {
     let text = word_text(words::f32_to_word(x));
     put(&text, out, at)
@@ -69,7 +64,7 @@ pub fn put_word(x: f32, out: &mut [u8], at: usize) -> usize
 
 // `-` for none.
 pub fn put_bytes(bytes: &[u8], out: &mut [u8], at: usize) -> usize
-    ensures { λ r. ⌜ Puts (bytesText (now (bytes .entry))) at (now (out .entry)) r (now (out .exit)) ⌝ }
+    ensures { λ r. ⌜ Puts at (bytesText (now (bytes .entry))) (now (out .entry)) r (now (out .exit)) ⌝ }
 {
     if bytes.len() == 0 {
         return put(b"-", out, at);
@@ -86,7 +81,7 @@ pub fn put_bytes(bytes: &[u8], out: &mut [u8], at: usize) -> usize
 
 // `-` for none.
 pub fn put_samples(samples: &[f32], out: &mut [u8], at: usize) -> usize
-    ensures { λ r. ⌜ Puts (samplesText (now (samples .entry))) at (now (out .entry)) r (now (out .exit)) ⌝ }
+    ensures { λ r. ⌜ Puts at (samplesText (now (samples .entry))) (now (out .entry)) r (now (out .exit)) ⌝ }
 {
     if samples.len() == 0 {
         return put(b"-", out, at);

@@ -68,6 +68,12 @@ module _ {case : ℕ → Type 0} where
   passed (here p) z = absurd (z refl)
   passed (later p f) z = (p, f)
 
+  -- a number by a test, and else what comes after it
+  pub by-test : {ns : List ℕ} {n r : ℕ} (b : Bool) → (b ≡ true → case n) → (b ≡ false → case n → ⊥) → (b ≡ false → First case ns r)
+      → First case (n ∷ ns) (cond b n r)
+  by-test true p q f = here (p refl)
+  by-test false p q f = later (q refl) (f refl)
+
 -- ---- a check: what a step answers, and its steps in turn
 
 -- x is n where P holds, and 0 where it does not

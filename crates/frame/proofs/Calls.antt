@@ -1,6 +1,6 @@
 -- What each call comes to in each of its cases, over plain values: the functions' proofs hand their facts to these. Assumes nothing.
 use Prim.Native.Nat.{ℕ, _≤_, _<_}
-use mathlib.Core.Path.{_≡_, refl, ap}
+use mathlib.Core.Path.{_≡_, refl, ap, _∙_}
 use mathlib.Core.List.{List}
 use borrow.Author.Needs.{needs}
 use borrow.Author.Tests.{lt-ltb, le-ltb, le-leb, lt-leb}
@@ -15,12 +15,15 @@ use Rattle.library.specs.declared.Written.{Written}
 use Rattle.runs.specs.declared.RunForm.{RunForm}
 use Rattle.heads.specs.Act.{Act, run, runTwo, rest, mark, back, drop}
 use Rattle.heads.specs.Head as head
-use Rattle.heads.specs.Head.{emptyHead, loaded, Turned, turn}
+use Rattle.heads.specs.Snapshot.{loadedWith, Sewn, runSewn, runTwoSewn, restSewn, sewnPlainly, sewnWith, sewnWithTwo}
+use Rattle.heads.specs.Head.{emptyHead, Turned, put, turn}
+use Rattle.heads.specs.declared.Snapshot.{Snapshot}
+use Rattle.heads.specs.declared.SnapshotAnswer.{SnapshotAnswer}
 use Rattle.heads.specs.declared.Head.{Head}
 use Rattle.heads.specs.declared.HeadAnswer.{HeadAnswer}
 use Rattle.heads.specs.declared.HeadMarked.{HeadMarked}
 use Rattle.frame.specs.Call.{opening, writing, loading, at}
-use Rattle.frame.specs.Calls.{headAt, withHead, withLibrary, freshFrame, refuse, settled, perform, numbered, settledAnswer, settledMark, plainly, acting, withOutput, withOutputs, withMark, withWritten, showOf}
+use Rattle.frame.specs.Calls.{headAt, withHead, withLibrary, freshFrame, refuse, settled, perform, numbered, heldAnswer, headAnswer, plainly, acting, withOutput, withOutputs, withMark, withWritten, showOf}
 use Rattle.frame.specs.declared.Frame.{Frame}
 use Rattle.frame.specs.declared.Answer.{Answer}
 use Rattle.frame.specs.declared.Marked.{Marked}
@@ -56,10 +59,10 @@ module _ (f : Frame) (h : ℕ) where
     unfolding perform
     load-entry l m q = rw (q, le-ltb _ _ l, le-leb _ _ m) refl
 
-    pub load-accepted : (y x : Head) (t : Entry) → h ≤ 11 → e < f .library .n → y ≡ headAt f h → t ≡ entryAt (f .library) e → x ≡ loaded y t
-        → r ≡ numbered 0 (withHead f h x) → plainly r ≡ perform f (loading h e)
+    pub load-accepted : (s : Snapshot) (t : Entry) → h ≤ 11 → e < f .library .n → t ≡ entryAt (f .library) e → s ≡ loadedWith t
+        → r ≡ heldAnswer f h (record { number = 0; now = s }) → plainly r ≡ perform f (loading h e)
     unfolding perform
-    load-accepted y x t l m b p i q = rw (q, i, p, b, le-ltb _ _ l, lt-leb _ _ m) refl
+    load-accepted s t l m p i q = rw (q, i, p, le-ltb _ _ l, lt-leb _ _ m) refl
 
   -- ---- any other call at a head: above the last, or what the head does
 
@@ -67,9 +70,9 @@ module _ (f : Frame) (h : ℕ) where
   unfolding perform
   above a l = rw (lt-ltb _ _ l) refl
 
-  below : (a : Act) (y : Head) (t : Turned) → h ≤ 11 → y ≡ headAt f h → t ≡ turn y a → settled f h t ≡ perform f (at h a)
+  below : (a : Act) (t : Turned) → h ≤ 11 → t ≡ turn (headAt f h) a → settled f h t ≡ perform f (at h a)
   unfolding perform
-  below a y t l b e = rw (le-ltb _ _ l, e, b) refl
+  below a t l e = rw (le-ltb _ _ l, e) refl
 
   module _ (r : Answer) (q : r ≡ numbered 1 f) (l : 11 < h) where
     pub rest-head : acting r ≡ perform f (at h rest)
@@ -90,20 +93,33 @@ module _ (f : Frame) (h : ℕ) where
   pub mark-head : 11 < h → withMark (record { number = 1; mark = 0; frame = f }) ≡ perform f (at h mark)
   mark-head l = rw (above mark l) refl
 
+  -- what the head holds is changed
+  module _ (s : Snapshot) (l : h ≤ 11) (b : s ≡ headAt f h .now) (q : SnapshotAnswer) (r : Answer) (e : r ≡ heldAnswer f h q) where
+    sews : (a : Act) (t u : Sewn) → t ≡ u → put (headAt f h) u ≡ turn (headAt f h) a → settled f h (put (headAt f h) t) ≡ perform f (at h a)
+    sews a t u c w = below a (put (headAt f h) t) l (ap (put (headAt f h)) c ∙ w)
+
+    pub rests : sewnPlainly q ≡ restSewn s → acting r ≡ perform f (at h rest)
+    unfolding turn
+    rests c = rw e (sews rest (sewnPlainly q) _ (c ∙ ap restSewn b) refl)
+
+    pub runs : (form : RunForm) (us ys ys′ : List Float) → sewnWith q ys′ ≡ runSewn s form us ys → withOutput r ys′ ≡ perform f (at h (run form us ys))
+    unfolding turn
+    runs form us ys ys′ c = rw e (sews (run form us ys) (sewnWith q ys′) _ (c ∙ ap (λ (k : Snapshot). runSewn k form us ys) b) refl)
+
+    pub runs-two : (form : RunForm) (us ys zs ys′ zs′ : List Float) → sewnWithTwo q ys′ zs′ ≡ runTwoSewn s form us ys zs
+        → withOutputs r ys′ zs′ ≡ perform f (at h (runTwo form us ys zs))
+    unfolding turn
+    runs-two form us ys zs ys′ zs′ c =
+        rw e (sews (runTwo form us ys zs) (sewnWithTwo q ys′ zs′) _ (c ∙ ap (λ (k : Snapshot). runTwoSewn k form us ys zs) b) refl)
+
+  -- and its marks
   module _ (y : Head) (l : h ≤ 11) (b : y ≡ headAt f h) where
-    module _ (q : HeadAnswer) (r : Answer) (s : r ≡ settledAnswer f h q) where
-      pub acts : (a : Act) → head.plainly q ≡ turn y a → acting r ≡ perform f (at h a)
-      acts a e = rw s (below a y (head.plainly q) l b e)
+    pub acts : (a : Act) (q : HeadAnswer) (r : Answer) → r ≡ headAnswer f h q → head.plainly q ≡ turn y a → acting r ≡ perform f (at h a)
+    acts a q r e c = rw e (below a (head.plainly q) l (c ∙ ap (λ (k : Head). turn k a) b))
 
-      pub runs : (form : RunForm) (us ys ys′ : List Float) → head.withOutput q ys′ ≡ turn y (run form us ys) → withOutput r ys′ ≡ perform f (at h (run form us ys))
-      runs form us ys ys′ e = rw s (below (run form us ys) y (head.withOutput q ys′) l b e)
-
-      pub runs-two : (form : RunForm) (us ys zs ys′ zs′ : List Float) → head.withOutputs q ys′ zs′ ≡ turn y (runTwo form us ys zs)
-          → withOutputs r ys′ zs′ ≡ perform f (at h (runTwo form us ys zs))
-      runs-two form us ys zs ys′ zs′ e = rw s (below (runTwo form us ys zs) y (head.withOutputs q ys′ zs′) l b e)
-
-    pub marks : (q : HeadMarked) (r : Marked) → r ≡ settledMark f h q → head.withMark q ≡ turn y mark → withMark r ≡ perform f (at h mark)
-    marks q r s e = rw s (below mark y (head.withMark q) l b e)
+    pub marks : (q : HeadMarked) (g : Frame) → g ≡ withHead f h (q .head) → head.withMark q ≡ turn y mark
+        → withMark (record { number = q .number; mark = q .mark; frame = g }) ≡ perform f (at h mark)
+    marks q g e c = rw e (below mark (head.withMark q) l (c ∙ ap (λ (k : Head). turn k mark) b))
 
   -- ---- show
 
@@ -117,4 +133,4 @@ module _ (f : Frame) (h : ℕ) where
 
 -- what `search` is handed at each return of a call
 pub ruleset calls =
-    (fresh, open-refused, open-accepted, written, load-head, load-entry, load-accepted, rest-head, back-head, drop-head, run-head, two-head, mark-head, acts, runs, runs-two, marks, show-head, show-accepted, needs)
+    (fresh, open-refused, open-accepted, written, load-head, load-entry, load-accepted, rest-head, back-head, drop-head, run-head, two-head, mark-head, rests, runs, runs-two, acts, marks, show-head, show-accepted, needs)

@@ -11,13 +11,14 @@ use lib.Seq.{set-getD}
 use Rattle.sheets.specs.Sheet.{entriesOf, entryIn, checkOf}
 use Rattle.sheets.specs.declared.entry.Entry.{Entry}
 use Rattle.library.specs.Library.{libraryOf, entryAt, writeOf}
-use Rattle.words.proofs.Copies.{over-none}
-use Rattle.heads.specs.Table.{table}
+use Rattle.lists.proofs.Over.{over-none}
+use Rattle.lists.specs.Table.{table}
 use Rattle.heads.specs.Act.{Act, HeadReply, refusedAct}
-use Rattle.heads.specs.Head.{loaded, Turned}
+use Rattle.heads.specs.Snapshot.{loadedWith}
+use Rattle.heads.specs.Head.{holding}
 use Rattle.heads.specs.History.{loadEvent, HeadHistory, actNumber, adding, grownBy, advanceBy, acceptedAct, actReply}
 use Rattle.heads.specs.Follows.{headFor}
-use Rattle.heads.proofs.Tables.{getD-table, table-ext, set-table}
+use Rattle.lists.proofs.Tables.{getD-table, table-ext, set-table}
 use Rattle.heads.proofs.Follows.{cond-out, head-follows}
 use Rattle.frame.specs.Call.{Call, opening, writing, loading, at, Reply, plain, acted, refused}
 use Rattle.frame.specs.Calls.{noHead, withHead, Done, settled, perform}
@@ -71,7 +72,7 @@ follows-load H h e S = go (ltb 11 h) refl (leb (entriesOf (H .sheet)) e) refl
     go false q true p = rw (q, p) refl
     go false q false p =
         rw (q, p, the-head H h (omega (arith, ltb-false 11 h q)))
-        (ap (λ (t : Entry). record { reply = plain 0; frame = withHead (frameFor H) h (loaded (headFor (H .heads h)) t) }) (S .sheet .entry e (leb-false _ _ p))
+        (ap (λ (t : Entry). record { reply = plain 0; frame = withHead (frameFor H) h (holding (headFor (H .heads h)) (loadedWith t)) }) (S .sheet .entry e (leb-false _ _ p))
         ∙ rw (head-follows .load (H .heads h) (entryIn (H .sheet) e) (S .each h))
         (ap (λ g. record { reply = plain 0; frame = g }) (head-set H h (adding (H .heads h) (loadEvent (entryIn (H .sheet) e))))))
 

@@ -6,7 +6,7 @@ use mathlib.Core.List.{List}
 use borrow.Author.Tests.{eqb-true}
 use lib.Dec.{eqb, leb, ltb}
 use lib.Seq.{set-getD}
-use Rattle.words.proofs.Copies.{over-none}
+use Rattle.lists.proofs.Over.{over-none}
 use Rattle.sheets.specs.Sheet.{checkOf}
 use Rattle.library.specs.Library.{writeOf}
 use Rattle.heads.specs.Act.{Act, run, runTwo, rest, mark, back, drop, headNumber, refusedAct}

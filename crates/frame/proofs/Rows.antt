@@ -5,7 +5,7 @@ use native.Mathlib.Omega.{arith}
 use borrow.Author.Tests.{ltb-true, ltb-false, leb-true, leb-false}
 use lib.Dec.{ltb, leb}
 use Rattle.filter_core.specs.Rows.{First, none, here, later}
-use Rattle.filter_core.proofs.Rows.{exactly}
+use Rattle.filter_core.proofs.Rows.{exactly, by-test}
 use Rattle.sheets.specs.Sheet.{entriesOf}
 use Rattle.sheets.proofs.Rows.{checked}
 use Rattle.library.specs.Library.{libraryOf}
@@ -13,7 +13,7 @@ use Rattle.library.proofs.Rows.{write-by-rows}
 use Rattle.heads.specs.Act.{Act}
 use Rattle.heads.specs.History.{HeadHistory}
 use Rattle.heads.specs.Rows.{ActCase, numbersOf}
-use Rattle.heads.proofs.Rows.{by-test, head-by-rows}
+use Rattle.heads.proofs.Rows.{head-by-rows}
 use Rattle.frame.specs.Call.{Call, opening, writing, loading, at}
 use Rattle.frame.specs.History.{Histories, noHistories, headFirst, loadNumber, callNumber, advanceAll}
 use Rattle.frame.specs.Rows.{AtCase, no-head, of-head, LoadCase, no-entry, Row, NumbersByRows}

@@ -4,12 +4,12 @@ use mathlib.Core.Path.{_≡_, refl, ap}
 use mathlib.Core.List.{List, [], _∷_}
 use native.Mathlib.Omega.{arith}
 use Rattle.library.proofs.RoundTrip.{no-sheet}
-use Rattle.heads.specs.Table.{table}
+use Rattle.lists.specs.Table.{table}
 use Rattle.heads.specs.History.{Event, snapshotFrom, snapshotOf}
 use Rattle.heads.specs.Follows.{headFor, Fits, bare, held}
 use Rattle.heads.specs.declared.Slot.{Slot}
 use Rattle.heads.specs.declared.Slot.the-variants.{Empty, Holds}
-use Rattle.heads.proofs.Tables.{getD-table, take-table}
+use Rattle.lists.proofs.Tables.{getD-table, take-table}
 use Rattle.heads.proofs.Follows.{head-follows}
 use Rattle.frame.specs.Calls.{noHead, freshFrame}
 use Rattle.frame.specs.Call.{Call, Reply}

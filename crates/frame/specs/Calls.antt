@@ -9,10 +9,11 @@ use Rattle.sheets.specs.Sheet.{checkOf}
 use Rattle.library.specs.Library.{none, libraryOf, entryAt, writeOf, writtenOf}
 use Rattle.library.specs.declared.Library.{Library}
 use Rattle.heads.specs.Act.{answered, marked, ran, ranTwo}
-use Rattle.heads.specs.Head.{emptySnapshot, emptyHead, loaded, Turned, turn}
+use Rattle.heads.specs.Snapshot.{emptySnapshot, loadedWith}
+use Rattle.heads.specs.Head.{emptyHead, holding, Turned, turn}
 use Rattle.heads.specs.declared.Head.{Head}
 use Rattle.heads.specs.declared.HeadAnswer.{HeadAnswer}
-use Rattle.heads.specs.declared.HeadMarked.{HeadMarked}
+use Rattle.heads.specs.declared.SnapshotAnswer.{SnapshotAnswer}
 use Rattle.frame.specs.Call.{Call, opening, writing, loading, at, Reply, plain, wrote, acted, refused}
 use Rattle.frame.specs.declared.Frame.{Frame}
 use Rattle.frame.specs.declared.Answer.{Answer}
@@ -59,7 +60,7 @@ settled f h t = record { reply = acted (t .reply); frame = withHead f h (t .head
 abbrev pub loadDone : Frame → ℕ → ℕ → Done
 loadDone f h e =
     cond (leb (f .library .n) e) (refuse f (loading h e) 5)
-    (record { reply = plain 0; frame = withHead f h (loaded (headAt f h) (entryAt (f .library) e)) })
+    (record { reply = plain 0; frame = withHead f h (holding (headAt f h) (loadedWith (entryAt (f .library) e))) })
 
 unfoldable pub perform : Frame → Call → Done
 perform f (opening s) = cond (eqb (checkOf s) 0) (record { reply = plain 0; frame = withLibrary f (libraryOf s) }) (refuse f (opening s) (checkOf s))
@@ -73,16 +74,13 @@ perform f (at h a) = atHead f (at h a) h (settled f h (turn (headAt f h) a))
 abbrev pub numbered : ℕ → Frame → Answer
 numbered n f = record { number = n; frame = f }
 
-abbrev pub unmarked : ℕ → Frame → Marked
-unmarked n f = record { number = n; mark = 0; frame = f }
+-- a head's answer, and the frame with what the head then holds, or with the head
 
--- a head's answer, and the frame with that head
+abbrev pub heldAnswer : Frame → ℕ → SnapshotAnswer → Answer
+heldAnswer f h q = numbered (q .number) (withHead f h (holding (headAt f h) (q .now)))
 
-abbrev pub settledAnswer : Frame → ℕ → HeadAnswer → Answer
-settledAnswer f h q = numbered (q .number) (withHead f h (q .head))
-
-abbrev pub settledMark : Frame → ℕ → HeadMarked → Marked
-settledMark f h q = record { number = q .number; mark = q .mark; frame = withHead f h (q .head) }
+abbrev pub headAnswer : Frame → ℕ → HeadAnswer → Answer
+headAnswer f h q = numbered (q .number) (withHead f h (q .head))
 
 abbrev pub plainly : Answer → Done
 plainly a = record { reply = plain (a .number); frame = a .frame }

@@ -3,14 +3,15 @@
 
 use heads::Head;
 use heads::HeadAnswer;
-use heads::HeadMarked;
+use heads::Snapshot;
+use heads::SnapshotAnswer;
 use library::Library;
 use runs::RunForm;
 ghost use mathlib.Core.Path.{_≡_};
 ghost use Prim.Native.Nat.{_≤_};
 ghost use Rattle.heads.specs.Act.{run, runTwo, rest, mark, back, drop};
 ghost use Rattle.frame.specs.Call.{opening, writing, loading, at};
-ghost use Rattle.frame.specs.Calls.{headAt, withHead, numbered, unmarked, settledAnswer, settledMark, freshFrame, perform, plainly, acting, withOutput, withOutputs, withMark, withWritten, showOf};
+ghost use Rattle.frame.specs.Calls.{headAt, withHead, numbered, heldAnswer, headAnswer, freshFrame, perform, plainly, acting, withOutput, withOutputs, withMark, withWritten, showOf};
 ghost use Rattle.frame.specs.Refused.{RefusedLeaves};
 ghost use Rattle.frame.specs.Rows.{NumbersByRows};
 ghost use Rattle.frame.specs.Demand.{Demand3};
@@ -70,26 +71,34 @@ fn with_head(mut frame: Frame, head: usize, now: Head) -> Frame
     frame
 }
 
-// What a head answered, with that head put back. A refused call put back the head that it was given.
-fn settle(frame: Frame, head: usize, a: HeadAnswer) -> Answer
+fn held_at(frame: Frame, head: usize) -> Snapshot
     requires { ⌜ head ≤ 11 ⌝ }
-    ensures { λ r. ⌜ r ≡ settledAnswer frame head a ⌝ }
+    ensures { λ r. ⌜ r ≡ headAt frame head .now ⌝ }
+{
+    let h = head_at(frame, head);
+    h.now
+}
+
+// A head's answer, and the frame with what the head then holds. A refused call hands back what was held. The marks are not moved: storing
+// them again would cost a copy of the frame.
+fn settle(frame: Frame, head: usize, a: SnapshotAnswer) -> Answer
+    requires { ⌜ head ≤ 11 ⌝ }
+    ensures { λ r. ⌜ r ≡ heldAnswer frame head a ⌝ }
+{
+    let now = a.now;
+    answer_of(
+        a.number,
+        with_head(frame, head, head_at(frame, head).holding(now)),
+    )
+}
+
+// The same where the marks change.
+fn settle_head(frame: Frame, head: usize, a: HeadAnswer) -> Answer
+    requires { ⌜ head ≤ 11 ⌝ }
+    ensures { λ r. ⌜ r ≡ headAnswer frame head a ⌝ }
 {
     let after = a.head;
     answer_of(a.number, with_head(frame, head, after))
-}
-
-fn settle_mark(mut frame: Frame, head: usize, a: HeadMarked) -> Marked
-    requires { ⌜ head ≤ 11 ⌝ }
-    ensures { λ r. ⌜ r ≡ settledMark frame head a ⌝ }
-{
-    let after = a.head;
-    frame.heads[head] = after;
-    Marked {
-        number: a.number,
-        mark: a.mark,
-        frame: frame,
-    }
 }
 
 impl Frame {
@@ -117,7 +126,7 @@ impl Frame {
     }
 
     // Puts the filter of an entry into a head. The settings are copied; the head's marks stay.
-    pub fn load(mut self, head: usize, entry: usize) -> Answer
+    pub fn load(self, head: usize, entry: usize) -> Answer
         ensures { λ r. ⌜ plainly r ≡ perform self (loading head entry) ⌝ }
     {
         if 11 < head {
@@ -128,9 +137,14 @@ impl Frame {
         if n <= entry {
             return answer_of(5, self);
         }
-        let h = head_at(self, head);
-        self.heads[head] = h.load(library::entry_at(library, entry));
-        answer_of(0, self)
+        settle(
+            self,
+            head,
+            SnapshotAnswer {
+                number: 0,
+                now: Snapshot::loaded(library::entry_at(library, entry)),
+            },
+        )
     }
 
     // Runs a form with one output.
@@ -140,8 +154,7 @@ impl Frame {
         if 11 < head {
             return answer_of(1, self);
         }
-        let h = head_at(self, head);
-        settle(self, head, h.run(form, input, output))
+        settle(self, head, held_at(self, head).run(form, input, output))
     }
 
     // Runs a form with two outputs.
@@ -158,8 +171,7 @@ impl Frame {
         if 11 < head {
             return answer_of(1, self);
         }
-        let h = head_at(self, head);
-        settle(self, head, h.run_two(form, input, first, second))
+        settle(self, head, held_at(self, head).run_two(form, input, first, second))
     }
 
     // Clears what a head's filter retains of past samples.
@@ -169,8 +181,7 @@ impl Frame {
         if 11 < head {
             return answer_of(1, self);
         }
-        let h = head_at(self, head);
-        settle(self, head, h.rest())
+        settle(self, head, held_at(self, head).rest())
     }
 
     // Records a head, and answers the mark's number.
@@ -184,8 +195,13 @@ impl Frame {
                 frame: self,
             };
         }
-        let h = head_at(self, head);
-        settle_mark(self, head, h.mark())
+        let marked = head_at(self, head).mark();
+        let after = marked.head;
+        Marked {
+            number: marked.number,
+            mark: marked.mark,
+            frame: with_head(self, head, after),
+        }
     }
 
     // Restores mark m, keeps it, and drops those above.
@@ -195,8 +211,7 @@ impl Frame {
         if 11 < head {
             return answer_of(1, self);
         }
-        let h = head_at(self, head);
-        settle(self, head, h.back(m))
+        settle_head(self, head, head_at(self, head).back(m))
     }
 
     // Drops mark m and those above. The filter stays.
@@ -206,8 +221,7 @@ impl Frame {
         if 11 < head {
             return answer_of(1, self);
         }
-        let h = head_at(self, head);
-        settle(self, head, h.drop(m))
+        settle_head(self, head, head_at(self, head).drop(m))
     }
 
     // Writes the library as a sheet.

@@ -14,13 +14,13 @@ use Rattle.any_filter.specs.Cases.{typeOf}
 use Rattle.any_filter.specs.declared.FilterType.{FilterType}
 use Rattle.any_filter.specs.declared.Filter.{Filter}
 use Rattle.runs.specs.Form.{runRefusal, runTwoRefusal}
-use Rattle.heads.specs.Table.{table}
+use Rattle.lists.specs.Table.{table}
 use Rattle.heads.specs.Act.{Act, run, runTwo, rest, mark, back, drop, HeadReply, answered, marked}
 use Rattle.heads.specs.Snapshot.{emptySnapshot, loadedWith, Sewn, left, onFilter, runBy, runSewn, runTwoBy, runTwoSewn, restBy, restSewn}
 use Rattle.heads.specs.Head.{emptyHead, holding, Turned, refuse, accept, put, lastMark, nextMark, markedHead, markBy, marksBelow, onlyIf, backHead, dropHead, atMark, turn}
 use Rattle.heads.specs.History.{Event, loadEvent, HeadHistory, noHistory, lastType, unlessBare, noMark, actNumber, adding, grownBy, advanceBy, snapshotFrom, snapshotOf, acceptedAct, actReply}
 use Rattle.heads.specs.Follows.{headFor, Fits, bare, held, SoundHead, HeadFollows}
-use Rattle.heads.proofs.Tables.{getD-table, table-ext, set-table}
+use Rattle.lists.proofs.Tables.{getD-table, table-ext, set-table}
 use Rattle.heads.proofs.Sound.{snapshot-snoc, sound-none, sound-loaded, sound-advance}
 use Rattle.heads.specs.declared.Slot.{Slot}
 use Rattle.heads.specs.declared.Slot.the-variants.{Empty, Holds}

@@ -1,4 +1,3 @@
-pub mod Tables
 pub mod Turns
 pub mod Sound
 pub mod Follows

@@ -9,7 +9,7 @@ use lib.Dec.{ltb, leb}
 use lib.ListN.{length}
 use lib.Ieee.{Float}
 use Rattle.filter_core.specs.Rows.{First, none, here, later}
-use Rattle.filter_core.proofs.Rows.{exactly}
+use Rattle.filter_core.proofs.Rows.{exactly, by-test}
 use Rattle.runs.specs.Rows as rows
 use Rattle.runs.specs.declared.RunForm.{RunForm}
 use Rattle.runs.proofs.Rows.{by-rows}
@@ -19,11 +19,6 @@ use Rattle.heads.specs.Follows.{SoundHead}
 use Rattle.heads.specs.Rows.{ActCase, bare-run, bare-two, bare-rest, bare-mark, no-back, no-drop, full, no-form, no-form-two, no-step, no-step-two, numbersOf, HeadByRows}
 
 module _ {case : ℕ → Type 0} {ns : List ℕ} {r : ℕ} where
-  -- a number by a test, and else what comes after it
-  pub by-test : {n : ℕ} (b : Bool) → (b ≡ true → case n) → (b ≡ false → case n → ⊥) → (b ≡ false → First case ns r) → First case (n ∷ ns) (cond b n r)
-  by-test true p q f = here (p refl)
-  by-test false p q f = later (q refl) (f refl)
-
   by-history : (l : List Event) → (l ≡ [] → case 6) → ((l ≡ [] → ⊥) → case 6 → ⊥) → First case ns r → First case (6 ∷ ns) (unlessBare l r)
   by-history [] p q f = here (p refl)
   by-history (i ∷ l) p q f = later (q (λ e. let z : _≡_ {A = ℕ} 0 1 = cc in absurd (omega arith))) f

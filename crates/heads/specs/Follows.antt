@@ -6,7 +6,7 @@ use lib.ListN.{length, getD}
 use Rattle.sheets.specs.declared.entry.Entry.{Entry}
 use Rattle.any_filter.specs.Cases.{typeOf}
 use Rattle.any_filter.specs.declared.Filter.{Filter}
-use Rattle.heads.specs.Table.{table}
+use Rattle.lists.specs.Table.{table}
 use Rattle.heads.specs.Act.{Act}
 use Rattle.heads.specs.Snapshot.{loadedWith}
 use Rattle.heads.specs.Head.{emptyHead, holding, turn}

@@ -5,7 +5,7 @@ use mathlib.Core.Bool.{Bool, cond}
 use mathlib.Core.List.{List}
 use lib.Dec.{leb, ltb}
 use lib.ListN.{getD, set, replicate}
-use Rattle.heads.specs.Table.{table}
+use Rattle.lists.specs.Table.{table}
 use Rattle.heads.specs.Act.{Act, run, runTwo, rest, mark, back, drop, HeadReply, answered, marked, headNumber, refusedAct}
 use Rattle.heads.specs.Snapshot.{emptySnapshot, Sewn, runSewn, runTwoSewn, restSewn}
 use Rattle.heads.specs.declared.Slot.{Slot}

@@ -1,4 +1,3 @@
-pub mod Table
 pub mod Act
 pub mod Snapshot
 pub mod Head

@@ -9,7 +9,7 @@ use lib.ListN.{length, take, drop, length-drop}
 use lib.Seq.{take-all}
 use Rattle.sheets.specs.Sheet.{entriesOf, checkOf, Sized}
 use Rattle.sheets.proofs.Checks.{check-size}
-use Rattle.words.specs.Over.{over}
+use Rattle.lists.specs.Over.{over}
 use Rattle.library.specs.Library.{zeroBytes, none, libraryOf, readOf}
 use Rattle.library.specs.declared.Library.{Library}
 use Rattle.library.specs.declared.Reading.{Reading}

@@ -6,7 +6,7 @@ use native.Mathlib.Omega.{arith}
 use borrow.Author.Tests.{ne-eqb}
 use lib.ListN.{length, getD, take, drop, length-take, length-drop, take-append-drop}
 use lib.Seq.{take-all, take-length, take-take, take-append-seam, drop-drop, getD-take, getD-drop}
-use Rattle.words.proofs.Copies.{over-none, over-all, over-front}
+use Rattle.lists.proofs.Over.{over-none, over-all, over-front}
 use Rattle.sheets.specs.Sheet.{entriesOf, Sized, kindAt, settingAt, entryIn}
 use Rattle.sheets.specs.Rows.{Sheet}
 use Rattle.sheets.proofs.Rows.{sheet-check}
@@ -60,7 +60,7 @@ module _ (s : List ℕ) (z : Sized s) where
       let b : n / 256 ≡ getD s 1 0 = omega arith in
       let c : drop n (drop 2 s) ≡ drop (2 + n) s = drop-drop n 2 s in
       let d : take n (drop 2 s) ++ drop (2 + n) s ≡ drop 2 s = rw (← c) (take-append-drop n (drop 2 s)) in
-      rw (kinds-in, settings-in, a, b, d) (sym (two-first s (omega arith)))
+      rw (kinds-in, settings-in, d) (cc (two-first s (omega arith)))
 
 -- ---- the round trips
 

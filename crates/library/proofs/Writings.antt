@@ -10,8 +10,8 @@ use borrow.Author.Tests.{eqb-true}
 use lib.Dec.{eqb}
 use lib.ListN.{length, take, length-append}
 use lib.Seq.{length-take-le}
-use Rattle.words.specs.Over.{over}
-use Rattle.words.proofs.Copies.{over-append, over-front}
+use Rattle.lists.specs.Over.{over}
+use Rattle.lists.proofs.Over.{over-append, over-front}
 use Rattle.filter_core.proofs.Rows.{below}
 use Rattle.library.specs.Library.{zeroBytes, bytesOf, writeRefusal, writtenLength, writeOf, writtenOf}
 use Rattle.library.specs.declared.Library.{Library}

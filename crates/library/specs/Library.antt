@@ -4,7 +4,7 @@ use mathlib.Core.Bool.{cond}
 use mathlib.Core.List.{List, _∷_, _++_}
 use lib.Dec.{eqb, ltb}
 use lib.ListN.{length, getD, take, drop, replicate}
-use Rattle.words.specs.Over.{over}
+use Rattle.lists.specs.Over.{over}
 use Rattle.sheets.specs.Sheet.{entriesOf, entryOf, checkOf}
 use Rattle.sheets.specs.declared.entry.Entry.{Entry}
 use Rattle.library.specs.declared.Library.{Library}

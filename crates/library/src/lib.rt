@@ -2,7 +2,7 @@
 
 ghost use mathlib.Core.Path.{_≡_};
 ghost use Prim.Native.Nat.{_%_, _≤_};
-ghost use Rattle.words.specs.Over.{over};
+ghost use Rattle.lists.specs.Over.{over};
 ghost use Rattle.sheets.specs.Sheet.{entriesOf, Sized};
 ghost use Rattle.library.specs.Library.{zeroBytes, none, libraryOf, readOf, bytesOf, writeRefusal, writtenLength, writeOf, writtenOf, entryAt};
 ghost use Rattle.library.specs.Rows.{WriteByRows};
@@ -43,9 +43,9 @@ fn library_of(sheet: &[u8], n: usize) -> Library
 {
     let end = 2 + n;
     let mut kinds = [0u8; 64];
-    words::copy(&sheet[2..end], &mut kinds, 0);
+    lists::copy(&sheet[2..end], &mut kinds, 0);
     let mut settings = [0u8; 768];
-    words::copy(&sheet[end..], &mut settings, 0);
+    lists::copy(&sheet[end..], &mut settings, 0);
     Library {
         n: n,
         kinds: kinds,
@@ -106,11 +106,11 @@ fn sheet_of(library: Library) -> [u8; 834]
         return bytes;
     }
     let count = [low_byte(n), low_byte(n / 256)];
-    words::copy(&count, &mut bytes, 0);
+    lists::copy(&count, &mut bytes, 0);
     let kinds = library.kinds;
-    words::copy(&kinds[..n], &mut bytes, 2);
+    lists::copy(&kinds[..n], &mut bytes, 2);
     let settings = library.settings;
-    words::copy(&settings[..12 * n], &mut bytes, 2 + n);
+    lists::copy(&settings[..12 * n], &mut bytes, 2 + n);
     bytes
 }
 
@@ -122,7 +122,7 @@ pub fn write(library: Library, output: &mut [u8]) -> Written
     let number = write_refusal(library.n, output.len());
     let length = written_length(number, library.n);
     let bytes = sheet_of(library);
-    words::copy(&bytes[..length], output, 0);
+    lists::copy(&bytes[..length], output, 0);
     Written {
         number: number,
         length: length,

@@ -1,9 +1,6 @@
-// Words of 32 bits: from bytes, low byte first, and to binary32 and back. And bytes copied.
+// Words of 32 bits: from bytes, low byte first, and to binary32 and back.
 // All NaNs are one value here, so of the NaN patterns only one comes back from binary32: the one that `other_nan` lets pass.
 
-mod over;
-
-pub use over::copy;
 ghost use mathlib.Core.Path.{_≡_};
 ghost use Prim.Native.Nat.{_+_};
 ghost use lib.Ieee.{binary32, ofBits, toBits};

@@ -5,7 +5,7 @@ use Rattle.naive_svf.specs.NaiveSvf.{naiveLow, naiveHigh, naiveNext, naiveOut}
 use Rattle.modified_svf.specs.ModifiedSvf.{modifiedNext, modifiedOut}
 use Rattle.crossover_svf.specs.CrossoverSvf.{crossoverNext, crossoverOut}
 use Rattle.sheets.specs.Refusal.{firstRefusal, entryRefusal}
-use Rattle.words.specs.Over.{over}
+use Rattle.lists.specs.Over.{over}
 use Rattle.library.specs.Library.{zeroBytes}
 use Rattle.runs.specs.Run.{through, firstOutput}
 use Rattle.loads.specs.Load.{filterFor}

@@ -2,7 +2,7 @@ use mathlib.Core.Path.{_≡_}
 use mathlib.Core.Bool.{true}
 use Prim.Native.Nat.{_≤_, _-_}
 use lib.ListN.{length}
-use Rattle.digits.specs.Table.{firsts}
+use Rattle.digits.specs.Every.{firsts}
 use Rattle.digits.specs.Hex.{isHex}
 use Rattle.digits.proofs.Reading.{reading}
 use Rattle.digits.proofs.hex.all_hex.Statement.{statement}

@@ -1,11 +1,12 @@
-use Rattle.digits.proofs.Putting.{Putting, putting}
 use Prim.Native.Nat.{_-_}
+use Rattle.lists.proofs.Over.{Copied}
 use Rattle.digits.specs.Hex.{samplesOf}
+use Rattle.digits.proofs.Putting.{putting}
 use Rattle.digits.proofs.hex.samples.Statement.{statement}
 use Rattle.digits.proofs.hex.samples.Tie as tie
 
 abbrev Inv-loop : tie.InvT-loop
-Inv-loop s out₀ n i₀ out i = Putting (samplesOf s) 0 out₀ n i out
+Inv-loop s out₀ n i₀ out i = Copied 0 (samplesOf s) out₀ n i out
 
 abbrev μ-loop : tie.MeasureT-loop
 μ-loop s out₀ n i₀ out i = n - i

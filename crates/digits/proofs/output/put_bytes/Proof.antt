@@ -7,7 +7,7 @@ use Rattle.digits.proofs.output.put_bytes.Statement.{statement}
 use Rattle.digits.proofs.output.put_bytes.Tie as tie
 
 abbrev Inv-loop : tie.InvT-loop
-Inv-loop bytes out₀ at to₀ i₀ out to i = (i ≤ length bytes) × Puts (spelled byteText (take i bytes)) at out₀ to out
+Inv-loop bytes out₀ at to₀ i₀ out to i = (i ≤ length bytes) × Puts at (spelled byteText (take i bytes)) out₀ to out
 
 abbrev μ-loop : tie.MeasureT-loop
 μ-loop bytes out₀ at to₀ i₀ out to i = length bytes - i

@@ -8,7 +8,7 @@ use Rattle.digits.proofs.output.put_samples.Statement.{statement}
 use Rattle.digits.proofs.output.put_samples.Tie as tie
 
 abbrev Inv-loop : tie.InvT-loop
-Inv-loop samples out₀ at to₀ i₀ out to i = (i ≤ length samples) × Puts (spelled (λ x. wordText (toBits binary32 x)) (take i samples)) at out₀ to out
+Inv-loop samples out₀ at to₀ i₀ out to i = (i ≤ length samples) × Puts at (spelled (λ x. wordText (toBits binary32 x)) (take i samples)) out₀ to out
 
 abbrev μ-loop : tie.MeasureT-loop
 μ-loop samples out₀ at to₀ i₀ out to i = length samples - i

@@ -1,5 +1,5 @@
 use Rattle.heads.specs.Head.{marksBelow}
-use Rattle.heads.specs.Table.{table}
+use Rattle.lists.specs.Table.{table}
 use borrow.Author.Needs.{needs}
 use Rattle.heads.proofs.marks.marks_below.Statement.{statement}
 use Rattle.heads.proofs.marks.marks_below.Tie as tie

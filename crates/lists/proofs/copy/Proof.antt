@@ -1,7 +1,7 @@
 use Prim.Native.Nat.{_-_}
-use Rattle.words.proofs.Copies.{Copied, copying}
-use Rattle.words.proofs.over.copy.Statement.{statement}
-use Rattle.words.proofs.over.copy.Tie as tie
+use Rattle.lists.proofs.Over.{Copied, copying}
+use Rattle.lists.proofs.copy.Statement.{statement}
+use Rattle.lists.proofs.copy.Tie as tie
 
 abbrev Inv-loop : tie.InvT-loop
 Inv-loop source output₀ at n i₀ output i = Copied at source output₀ n i output

@@ -1,7 +1,7 @@
-// Bytes written over others.
+// Bytes written over others. specs/ and proofs/ also have tables, the lists of a function's first values, for the crates that speak of them.
 
 ghost use mathlib.Core.Path.{_≡_};
-ghost use Rattle.words.specs.Over.{over};
+ghost use Rattle.lists.specs.Over.{over};
 
 // The source into the output from the place `at` on. What has no room is left out, so a place past the end takes nothing.
 pub fn copy(source: &[u8], output: &mut [u8], at: usize)

@@ -1,7 +1,7 @@
--- What holds of the first places of a list, and the list of a function's first values.
+-- What holds of the first places of a list, and of every one.
 use Prim.Native.Nat.{ℕ, zero, suc}
 use mathlib.Core.Bool.{Bool, true, false, cond}
-use mathlib.Core.List.{List, [], _∷_}
+use mathlib.Core.List.{List}
 use lib.ListN.{length, getD}
 
 -- the test holds of the first n
@@ -12,8 +12,3 @@ firsts test s (suc n) = cond (firsts test s n) (test (getD s n 0)) false
 -- the test holds of every one
 abbrev pub every : (ℕ → Bool) → List ℕ → Bool
 every test s = firsts test s (length s)
-
--- f 0, f 1, .., f (n - 1)
-unfoldable pub table : {A : Type 0} → ℕ → (ℕ → A) → List A
-table zero f = []
-table (suc n) f = f 0 ∷ table n (λ i. f (suc i))

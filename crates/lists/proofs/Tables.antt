@@ -6,9 +6,14 @@ use mathlib.Core.List.{List, [], _∷_, map}
 use native.Mathlib.Omega.{arith}
 use lib.ListN.{length, getD, take, set}
 use lib.Dec.{eqb, eqb·suc-suc, eqb·zero-suc, eqb·suc-zero}
-use Rattle.heads.specs.Table.{table}
+use Rattle.lists.specs.Table.{table}
 
 module _ {A : Type 0} where
+  pub length-table : (n : ℕ) (f : ℕ → A) → length (table n f) ≡ n
+  unfolding table
+  length-table zero f = refl
+  length-table (suc n) f = ap suc (length-table n (λ i. f (suc i)))
+
   pub getD-table : (n : ℕ) (f : ℕ → A) (i : ℕ) (d : A) → i < n → getD (table n f) i d ≡ f i
   unfolding table
   getD-table zero f i d h = absurd (omega arith)

@@ -9,7 +9,7 @@ use native.Mathlib.Omega.{arith}
 use borrow.Author.Needs.{needs}
 use lib.ListN.{length, getD, set, take, drop, length-set, length-append}
 use lib.Seq.{paste, paste-zero, paste-suc, length-paste, take-paste, drop-paste, take-append-add, take-append-le, take-length, drop-drop}
-use Rattle.words.specs.Over.{room, over}
+use Rattle.lists.specs.Over.{room, over}
 use Rattle.filter_core.proofs.Rows.{below}
 
 module _ {A : Type 0} where
@@ -68,21 +68,31 @@ module _ {A : Type 0} where
       rw (a, b, c) (paste-paste xs ws ys at n m (omega arith) (omega arith) t)
 
   -- what has no room makes no difference
-  pub over-full : (at : ℕ) (xs ws ys : List A) → length ys ≤ at + length xs → over at (xs ++ ws) ys ≡ over at xs ys
+  over-full : (at : ℕ) (xs ws ys : List A) → length ys ≤ at + length xs → over at (xs ++ ws) ys ≡ over at xs ys
   unfolding over
   over-full at xs ws ys h =
       let a : room at (xs ++ ws) ys ≡ room at xs ys = rw (length-append xs ws) (omega arith) in
       rw (a, take-append-le (room at xs ys) xs ws (omega arith)) refl
 
-  pub over-append : (at : ℕ) (xs ws ys : List A) → over (at + length xs) ws (over at xs ys) ≡ over at (xs ++ ws) ys
-  over-append at xs ws ys = ⊎-elim (λ h. past (omega arith)) (over-inside at xs ws ys) (below (length ys) (at + length xs))
-    where
-      past : length ys ≤ at + length xs → over (at + length xs) ws (over at xs ys) ≡ over at (xs ++ ws) ys
-      past h = over-past (at + length xs) ws (over at xs ys) (rw (length-over at xs ys) h) ∙ sym (over-full at xs ws ys h)
+  over-lost : (at k : ℕ) (xs ws ys : List A) → length ys ≤ at + length xs → length ys ≤ k → over k ws (over at xs ys) ≡ over at (xs ++ ws) ys
+  over-lost at k xs ws ys h l = over-past k ws (over at xs ys) (rw (length-over at xs ys) l) ∙ sym (over-full at xs ws ys h)
 
--- ---- the loop: i places are written
+  pub over-append : (at : ℕ) (xs ws ys : List A) → over (at + length xs) ws (over at xs ys) ≡ over at (xs ++ ws) ys
+  over-append at xs ws ys =
+      ⊎-elim (λ h. over-lost at (at + length xs) xs ws ys (omega arith) (omega arith)) (over-inside at xs ws ys) (below (length ys) (at + length xs))
+
+  -- the same from the place behind those that had room
+  pub over-behind : (at : ℕ) (xs ws ys : List A) → over (at + room at xs ys) ws (over at xs ys) ≡ over at (xs ++ ws) ys
+  over-behind at xs ws ys =
+      ⊎-elim
+      (λ h. over-lost at (at + room at xs ys) xs ws ys (omega arith) (omega arith))
+      (λ h. let a : room at xs ys ≡ length xs = omega arith in rw a (over-inside at xs ws ys h))
+      (below (length ys) (at + length xs))
+
+-- ---- the loop
 
 module _ {A : Type 0} where
+  -- the first i of n places are written
   pub record Copied (at : ℕ) (xs ys : List A) (n i : ℕ) (zs : List A) : Type 0 where
     pub inside : i ≤ n
     pub source : n ≤ length xs
@@ -90,8 +100,12 @@ module _ {A : Type 0} where
     pub long : length zs ≡ length ys
     is : zs ≡ paste ys at xs i
 
-  pub copy-start : (at : ℕ) (xs ys : List A) (n : ℕ) → at < length ys → n ≡ room at xs ys → Copied at xs ys n 0 ys
+  pub copy-start : (at : ℕ) (xs ys : List A) (n : ℕ) → at ≤ length ys → n ≡ room at xs ys → Copied at xs ys n 0 ys
   copy-start at xs ys n l e = record { inside = omega arith; source = omega arith; places = omega arith; long = refl; is = paste-zero ys at xs }
+
+  -- the premise as the branch before the loop leaves it
+  pub copy-inside : (at : ℕ) (xs ys : List A) (n : ℕ) → at < length ys → n ≡ room at xs ys → Copied at xs ys n 0 ys
+  copy-inside at xs ys n l e = copy-start at xs ys n (omega arith) e
 
   pub copy-again : {at : ℕ} {xs ys : List A} {n i : ℕ} {zs : List A} (d : A) → Copied at xs ys n i zs → i < n → Copied at xs ys n (i + 1) (set zs (at + i) (getD xs i d))
   copy-again {at} {xs} {ys} {n} {i} {zs} d c h =
@@ -110,4 +124,4 @@ module _ {A : Type 0} where
   pub copy-none : (at : ℕ) (xs ys : List A) → length ys ≤ at → ys ≡ over at xs ys
   copy-none at xs ys h = sym (over-past at xs ys h)
 
-pub ruleset copying = (copy-start, copy-again, copy-done, copy-none, needs)
+pub ruleset copying = (copy-inside, copy-again, copy-done, copy-none, needs)
