@@ -16,7 +16,7 @@ use Rattle.runs.specs.declared.RunForm.{RunForm}
 use Rattle.heads.specs.Act.{Act, run, runTwo, rest, mark, back, drop}
 use Rattle.heads.specs.Head as head
 use Rattle.heads.specs.Snapshot.{loadedWith, Sewn, runSewn, runTwoSewn, restSewn, sewnPlainly, sewnWith, sewnWithTwo}
-use Rattle.heads.specs.Head.{emptyHead, Turned, put, turn}
+use Rattle.heads.specs.Head.{emptyHead, holding, Turned, put, turn}
 use Rattle.heads.specs.declared.Snapshot.{Snapshot}
 use Rattle.heads.specs.declared.SnapshotAnswer.{SnapshotAnswer}
 use Rattle.heads.specs.declared.Head.{Head}
@@ -48,6 +48,18 @@ unfolding perform
 written f out out′ w e o = rw (e, o) refl
 
 module _ (f : Frame) (h : ℕ) where
+  -- ---- a head's answer, and the frame with that head
+
+  pub holds-at : (y : Head) → y ≡ headAt f h → y .now ≡ headAt f h .now
+  holds-at y b = ap (λ (k : Head). k .now) b
+
+  pub settles : (q : SnapshotAnswer) (y x : Head) (g : Frame) (r : Answer) → y ≡ headAt f h → x ≡ holding y (q .now) → g ≡ withHead f h x
+      → r ≡ numbered (q .number) g → r ≡ heldAnswer f h q
+  settles q y x g r b i w e = rw (e, w, i, b) refl
+
+  pub settles-head : (q : HeadAnswer) (g : Frame) (r : Answer) → g ≡ withHead f h (q .head) → r ≡ numbered (q .number) g → r ≡ headAnswer f h q
+  settles-head q g r w e = rw (e, w) refl
+
   -- ---- a load
 
   module _ (e : ℕ) (r : Answer) where
@@ -133,4 +145,4 @@ module _ (f : Frame) (h : ℕ) where
 
 -- what `search` is handed at each return of a call
 pub ruleset calls =
-    (fresh, open-refused, open-accepted, written, load-head, load-entry, load-accepted, rest-head, back-head, drop-head, run-head, two-head, mark-head, rests, runs, runs-two, acts, marks, show-head, show-accepted, needs)
+    (fresh, holds-at, settles, settles-head, open-refused, open-accepted, written, load-head, load-entry, load-accepted, rest-head, back-head, drop-head, run-head, two-head, mark-head, rests, runs, runs-two, acts, marks, show-head, show-accepted, needs)
