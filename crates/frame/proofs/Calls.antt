@@ -8,7 +8,7 @@ use lib.ListN.{replicate}
 use lib.Ieee.{Float}
 use Rattle.filter_core.proofs.Refusals.{refusing, accepting}
 use Rattle.sheets.specs.declared.entry.Entry.{Entry}
-use Rattle.library.specs.Library.{none, readOf, entryAt, writeOf, writtenOf}
+use Rattle.library.specs.Library.{none, readOf, writeOf, writtenOf}
 use Rattle.library.specs.declared.Library.{Library}
 use Rattle.library.specs.declared.Reading.{Reading}
 use Rattle.library.specs.declared.Written.{Written}
@@ -23,7 +23,7 @@ use Rattle.heads.specs.declared.Head.{Head}
 use Rattle.heads.specs.declared.HeadAnswer.{HeadAnswer}
 use Rattle.heads.specs.declared.HeadMarked.{HeadMarked}
 use Rattle.frame.specs.Call.{opening, writing, loading, at}
-use Rattle.frame.specs.Calls.{headAt, withHead, withLibrary, freshFrame, refuse, settled, perform, numbered, heldAnswer, headAnswer, plainly, acting, withOutput, withOutputs, withMark, withWritten, showOf}
+use Rattle.frame.specs.Calls.{headAt, withHead, withLibrary, freshFrame, refuse, settled, taken, perform, numbered, heldAnswer, headAnswer, plainly, acting, withOutput, withOutputs, withMark, withWritten, showOf}
 use Rattle.frame.specs.declared.Frame.{Frame}
 use Rattle.frame.specs.declared.Answer.{Answer}
 use Rattle.frame.specs.declared.Marked.{Marked}
@@ -71,7 +71,7 @@ module _ (f : Frame) (h : ℕ) where
     unfolding perform
     load-entry l m q = rw (q, le-ltb _ _ l, le-leb _ _ m) refl
 
-    pub load-accepted : (s : Snapshot) (t : Entry) → h ≤ 11 → e < f .library .n → t ≡ entryAt (f .library) e → s ≡ loadedWith t
+    pub load-accepted : (s : Snapshot) (t : Entry) → h ≤ 11 → e < f .library .n → t ≡ taken (f .library) e → s ≡ loadedWith t
         → r ≡ heldAnswer f h (record { number = 0; now = s }) → plainly r ≡ perform f (loading h e)
     unfolding perform
     load-accepted s t l m p i q = rw (q, i, p, le-ltb _ _ l, lt-leb _ _ m) refl

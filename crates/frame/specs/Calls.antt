@@ -6,6 +6,7 @@ use lib.Dec.{leb, ltb, eqb}
 use lib.ListN.{getD, set, replicate}
 use lib.Ieee.{Float}
 use Rattle.sheets.specs.Sheet.{checkOf}
+use Rattle.sheets.specs.declared.entry.Entry.{Entry}
 use Rattle.library.specs.Library.{none, libraryOf, entryAt, writeOf, writtenOf}
 use Rattle.library.specs.declared.Library.{Library}
 use Rattle.heads.specs.Act.{answered, marked, ran, ranTwo}
@@ -57,10 +58,14 @@ atHead f c h d = cond (ltb 11 h) (refuse f c 1) d
 abbrev pub settled : Frame → ℕ → Turned → Done
 settled f h t = record { reply = acted (t .reply); frame = withHead f h (t .head) }
 
+-- the entry that a load takes
+abbrev pub taken : Library → ℕ → Entry
+taken l e = entryAt l e
+
 abbrev pub loadDone : Frame → ℕ → ℕ → Done
 loadDone f h e =
     cond (leb (f .library .n) e) (refuse f (loading h e) 5)
-    (record { reply = plain 0; frame = withHead f h (holding (headAt f h) (loadedWith (entryAt (f .library) e))) })
+    (record { reply = plain 0; frame = withHead f h (holding (headAt f h) (loadedWith (taken (f .library) e))) })
 
 unfoldable pub perform : Frame → Call → Done
 perform f (opening s) = cond (eqb (checkOf s) 0) (record { reply = plain 0; frame = withLibrary f (libraryOf s) }) (refuse f (opening s) (checkOf s))

@@ -17,7 +17,7 @@ use Rattle.runs.specs.Form.{runRefusal, runTwoRefusal}
 use Rattle.lists.specs.Table.{table}
 use Rattle.heads.specs.Act.{Act, run, runTwo, rest, mark, back, drop, HeadReply, answered, marked}
 use Rattle.heads.specs.Snapshot.{emptySnapshot, loadedWith, Sewn, left, onFilter, runBy, runSewn, runTwoBy, runTwoSewn, restBy, restSewn}
-use Rattle.heads.specs.Head.{emptyHead, holding, Turned, refuse, accept, put, lastMark, nextMark, markedHead, markBy, marksBelow, onlyIf, backHead, dropHead, atMark, turn}
+use Rattle.heads.specs.Head.{emptyHead, holding, Turned, refuse, accept, put, lastMark, nextMark, markedHead, markBy, marksBelow, onlyIf, restored, backHead, dropHead, atMark, turn}
 use Rattle.heads.specs.History.{Event, loadEvent, HeadHistory, noHistory, lastType, unlessBare, noMark, actNumber, adding, grownBy, advanceBy, snapshotFrom, snapshotOf, acceptedAct, actReply}
 use Rattle.heads.specs.Follows.{headFor, Fits, bare, held, SoundHead, HeadFollows}
 use Rattle.lists.proofs.Tables.{getD-table, table-ext, set-table}
@@ -92,19 +92,25 @@ there : (x : HeadHistory) (a : Act) (m : ℕ) {y z : Head} → length (x .checkp
 there x a m {y} {z} four same = go (leb (length (x .checkpoints)) m) refl
   where
     go : (b : Bool) → leb (length (x .checkpoints)) m ≡ b
-        → cond b (refuse (headFor x) a 7) (cond (ltb lastMark m) (refuse (headFor x) a 7) (accept (answered 0) y)) ≡ unless (headFor x) a (cond b 7 0) (accept (answered 0) z)
+        → cond b (refuse (headFor x) a 7) (cond (ltb 3 m) (refuse (headFor x) a 7) (accept (answered 0) y)) ≡ unless (headFor x) a (cond b 7 0) (accept (answered 0) z)
     go true q = refl
     go false q =
-        let h : m < length (x .checkpoints) = leb-false (length (x .checkpoints)) m q in rw (le-ltb lastMark m (omega arith)) (ap (accept (answered 0)) (same h))
+        let h : m < length (x .checkpoints) = leb-false (length (x .checkpoints)) m q in rw (le-ltb 3 m (omega arith)) (ap (accept (answered 0)) (same h))
 
 module _ (x : HeadHistory) (S : SoundHead x) where
   back-pictured : (m : ℕ) → m < length (x .checkpoints) → backHead (headFor x) m ≡ headFor (grownBy x (back m))
   back-pictured m h =
       let four = S .four in
-      rw (getD-table 4 (λ i. snapshotOf (getD (x .checkpoints) i [])) m emptySnapshot (omega arith), marks-cut (x .checkpoints) (m + 1), length-take-le (m + 1) (x .checkpoints) (omega arith))
+      let old : restored (headFor x) m ≡ snapshotOf (getD (x .checkpoints) m []) = getD-table 4 (λ i. snapshotOf (getD (x .checkpoints) i [])) m emptySnapshot (omega arith) in
+      let kept = marks-cut (x .checkpoints) (m + 1) in
+      let so-many = length-take-le (m + 1) (x .checkpoints) (omega arith) in
+      cc
 
   drop-pictured : (m : ℕ) → m < length (x .checkpoints) → dropHead (headFor x) m ≡ headFor (grownBy x (drop m))
-  drop-pictured m h = rw (marks-cut (x .checkpoints) m, length-take-le m (x .checkpoints) (omega arith))
+  drop-pictured m h =
+      let kept = marks-cut (x .checkpoints) m in
+      let so-many = length-take-le m (x .checkpoints) (omega arith) in
+      cc
 
   -- the turn that the history says, and what a head then holds
 

@@ -53,7 +53,7 @@ refused-leaves x rest = on-filter x rest (x .now .slot) restBy refl (λ f z. abs
 refused-leaves x mark = marks x (x .now .slot)
 refused-leaves x (back m) =
     either x (back m) (leb (x .marked) m) _ _ (refusing x (back m) 7 refl)
-    (either x (back m) (ltb lastMark m) _ _ (refusing x (back m) 7 refl) (accepting x (back m) _ (backHead x m) refl))
+    (either x (back m) (ltb 3 m) _ _ (refusing x (back m) 7 refl) (accepting x (back m) _ (backHead x m) refl))
 refused-leaves x (drop m) =
     either x (drop m) (leb (x .marked) m) _ _ (refusing x (drop m) 7 refl)
-    (either x (drop m) (ltb lastMark m) _ _ (refusing x (drop m) 7 refl) (accepting x (drop m) _ (dropHead x m) refl))
+    (either x (drop m) (ltb 3 m) _ _ (refusing x (drop m) 7 refl) (accepting x (drop m) _ (dropHead x m) refl))

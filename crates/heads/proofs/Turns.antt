@@ -103,11 +103,11 @@ module _ (x : Head) where
     unfolding turn
     back-none n q = rw (q, le-leb _ _ n) refl
 
-    pub back-past : m < x .marked → lastMark < m → r ≡ numbered 7 x → plainly r ≡ turn x (back m)
+    pub back-past : m < x .marked → 3 < m → r ≡ numbered 7 x → plainly r ≡ turn x (back m)
     unfolding turn
     back-past n k q = rw (q, lt-leb _ _ n, lt-ltb _ _ k) refl
 
-    pub back-accepted : (ms : List Snapshot) → m < x .marked → m ≤ lastMark → ms ≡ marksBelow (m + 1) (x .marks)
+    pub back-accepted : (ms : List Snapshot) → m < x .marked → m ≤ 3 → ms ≡ marksBelow (m + 1) (x .marks)
         → r ≡ numbered 0 (record { now = restored x m; marks = ms; marked = m + 1 }) → plainly r ≡ turn x (back m)
     unfolding turn
     back-accepted ms n k w q = rw (q, w, lt-leb _ _ n, le-ltb _ _ k) refl
@@ -116,11 +116,11 @@ module _ (x : Head) where
     unfolding turn
     drop-none n q = rw (q, le-leb _ _ n) refl
 
-    pub drop-past : m < x .marked → lastMark < m → r ≡ numbered 7 x → plainly r ≡ turn x (drop m)
+    pub drop-past : m < x .marked → 3 < m → r ≡ numbered 7 x → plainly r ≡ turn x (drop m)
     unfolding turn
     drop-past n k q = rw (q, lt-leb _ _ n, lt-ltb _ _ k) refl
 
-    pub drop-accepted : (ms : List Snapshot) → m < x .marked → m ≤ lastMark → ms ≡ marksBelow m (x .marks)
+    pub drop-accepted : (ms : List Snapshot) → m < x .marked → m ≤ 3 → ms ≡ marksBelow m (x .marks)
         → r ≡ numbered 0 (record { now = x .now; marks = ms; marked = m }) → plainly r ≡ turn x (drop m)
     unfolding turn
     drop-accepted ms n k w q = rw (q, w, lt-leb _ _ n, le-ltb _ _ k) refl

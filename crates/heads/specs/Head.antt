@@ -76,7 +76,7 @@ dropHead x m = record { now = x .now; marks = marksBelow m (x .marks); marked = 
 
 -- no head has a mark above 3, so the second test refuses none that stands
 abbrev pub atMark : Head → Act → ℕ → Turned → Turned
-atMark x a m t = cond (leb (x .marked) m) (refuse x a 7) (cond (ltb lastMark m) (refuse x a 7) t)
+atMark x a m t = cond (leb (x .marked) m) (refuse x a 7) (cond (ltb 3 m) (refuse x a 7) t)
 
 unfoldable pub turn : Head → Act → Turned
 turn x (run form us ys) = put x (runSewn (x .now) form us ys)
