@@ -14,9 +14,8 @@ use Rattle.library.specs.declared.Reading.{Reading}
 use Rattle.library.specs.declared.Written.{Written}
 use Rattle.runs.specs.declared.RunForm.{RunForm}
 use Rattle.heads.specs.Act.{Act, run, runTwo, rest, mark, back, drop}
-use Rattle.heads.specs.Head as head
 use Rattle.heads.specs.Snapshot.{loadedWith, Sewn, runSewn, runTwoSewn, restSewn, sewnPlainly, sewnWith, sewnWithTwo}
-use Rattle.heads.specs.Head.{emptyHead, holding, Turned, put, turn}
+use Rattle.heads.specs.Head.{emptyHead, holding, Turned, put, turn, turnedPlainly, turnedWithMark}
 use Rattle.heads.specs.declared.Snapshot.{Snapshot}
 use Rattle.heads.specs.declared.SnapshotAnswer.{SnapshotAnswer}
 use Rattle.heads.specs.declared.Head.{Head}
@@ -26,7 +25,6 @@ use Rattle.frame.specs.Call.{opening, writing, loading, at}
 use Rattle.frame.specs.Calls.{headAt, withHead, withLibrary, freshFrame, refuse, settled, taken, perform, numbered, heldAnswer, headAnswer, plainly, acting, withOutput, withOutputs, withMark, withWritten, showOf}
 use Rattle.frame.specs.declared.Frame.{Frame}
 use Rattle.frame.specs.declared.Answer.{Answer}
-use Rattle.frame.specs.declared.Marked.{Marked}
 use Rattle.frame.specs.declared.Shown.{Shown}
 
 pub fresh : (y : Head) (l : Library) → y ≡ emptyHead → l ≡ none → _≡_ {A = Frame} (record { heads = replicate 12 y; library = l }) freshFrame
@@ -126,12 +124,12 @@ module _ (f : Frame) (h : ℕ) where
 
   -- and its marks
   module _ (y : Head) (l : h ≤ 11) (b : y ≡ headAt f h) where
-    pub acts : (a : Act) (q : HeadAnswer) (r : Answer) → r ≡ headAnswer f h q → head.plainly q ≡ turn y a → acting r ≡ perform f (at h a)
-    acts a q r e c = rw e (below a (head.plainly q) l (c ∙ ap (λ (k : Head). turn k a) b))
+    pub acts : (a : Act) (q : HeadAnswer) (r : Answer) → r ≡ headAnswer f h q → turnedPlainly q ≡ turn y a → acting r ≡ perform f (at h a)
+    acts a q r e c = rw e (below a (turnedPlainly q) l (c ∙ ap (λ (k : Head). turn k a) b))
 
-    pub marks : (q : HeadMarked) (g : Frame) → g ≡ withHead f h (q .head) → head.withMark q ≡ turn y mark
+    pub marks : (q : HeadMarked) (g : Frame) → g ≡ withHead f h (q .head) → turnedWithMark q ≡ turn y mark
         → withMark (record { number = q .number; mark = q .mark; frame = g }) ≡ perform f (at h mark)
-    marks q g e c = rw e (below mark (head.withMark q) l (c ∙ ap (λ (k : Head). turn k mark) b))
+    marks q g e c = rw e (below mark (turnedWithMark q) l (c ∙ ap (λ (k : Head). turn k mark) b))
 
   -- ---- show
 

@@ -1,29 +1,29 @@
 -- A frame is the picture of its histories, and a call on a picture gives the picture of the call. Assumes nothing.
 use Prim.Native.Nat.{ℕ, _<_}
-use mathlib.Core.Path.{_≡_, refl, ap, sym, _∙_}
+use mathlib.Core.Path.{_≡_, refl, ap, _∙_}
 use mathlib.Core.Bool.{Bool, true, false, cond}
 use mathlib.Core.List.{List}
 use native.Mathlib.Omega.{arith}
 use borrow.Author.Tests.{ltb-false, leb-false, eqb-true}
 use lib.Dec.{eqb, leb, ltb}
-use lib.ListN.{set, getD}
+use lib.ListN.{getD}
 use lib.Seq.{set-getD}
 use Rattle.sheets.specs.Sheet.{entriesOf, entryIn, checkOf}
 use Rattle.sheets.specs.declared.entry.Entry.{Entry}
-use Rattle.library.specs.Library.{libraryOf, entryAt, writeOf}
+use Rattle.library.specs.Library.{libraryOf, writeOf}
 use Rattle.lists.proofs.Over.{over-none}
 use Rattle.lists.specs.Table.{table}
-use Rattle.heads.specs.Act.{Act, HeadReply, refusedAct}
+use Rattle.heads.specs.Act.{Act, refusedAct}
 use Rattle.heads.specs.Snapshot.{loadedWith}
 use Rattle.heads.specs.Head.{holding}
 use Rattle.heads.specs.History.{loadEvent, HeadHistory, actNumber, adding, grownBy, advanceBy, acceptedAct, actReply}
 use Rattle.heads.specs.Follows.{headFor}
 use Rattle.lists.proofs.Tables.{getD-table, table-ext, set-table}
 use Rattle.heads.proofs.Follows.{cond-out, head-follows}
-use Rattle.frame.specs.Call.{Call, opening, writing, loading, at, Reply, plain, acted, refused}
-use Rattle.frame.specs.Calls.{noHead, withHead, Done, settled, perform}
-use Rattle.frame.specs.History.{Histories, loadNumber, callNumber, changedAt, withHistory, grown, advance, accepted, replyTo}
-use Rattle.frame.proofs.Sound.{SoundSheet, Sound}
+use Rattle.frame.specs.Call.{Call, opening, writing, loading, at, plain, acted}
+use Rattle.frame.specs.Calls.{noHead, withHead, settled, perform}
+use Rattle.frame.specs.History.{Histories, callNumber, withHistory, advance, replyTo}
+use Rattle.frame.proofs.Sound.{Sound}
 use Rattle.frame.specs.declared.Frame.{Frame}
 
 abbrev pub frameFor : Histories → Frame
@@ -82,8 +82,10 @@ module _ (H : Histories) (h : ℕ) (below : h < 12) (a : Act) where
   x = H .heads h
 
   settles : settled (frameFor H) h (record { reply = actReply x a; head = headFor (advanceBy x a) })
-      ≡ record { reply = cond (eqb (actNumber x a) 0) (acted (acceptedAct x a)) (acted (refusedAct (actNumber x a) a));
-                 frame = frameFor (cond (eqb (actNumber x a) 0) (withHistory H h (grownBy x a)) H) }
+      ≡ record {
+        reply = cond (eqb (actNumber x a) 0) (acted (acceptedAct x a)) (acted (refusedAct (actNumber x a) a));
+        frame = frameFor (cond (eqb (actNumber x a) 0) (withHistory H h (grownBy x a)) H);
+      }
   unfolding actReply advanceBy x
   settles = go (eqb (actNumber x a) 0)
     where

@@ -1,6 +1,6 @@
 -- The numbers of the frame's calls, by their rows. Assumes nothing.
 use Prim.Native.Nat.{ℕ, _≤_, _<_}
-use mathlib.Core.List.{List, [], _∷_}
+use mathlib.Core.List.{List, _∷_}
 use native.Mathlib.Omega.{arith}
 use borrow.Author.Tests.{ltb-true, ltb-false, leb-true, leb-false}
 use lib.Dec.{ltb, leb}
@@ -10,12 +10,9 @@ use Rattle.sheets.specs.Sheet.{entriesOf}
 use Rattle.sheets.proofs.Rows.{checked}
 use Rattle.library.specs.Library.{libraryOf}
 use Rattle.library.proofs.Rows.{write-by-rows}
-use Rattle.heads.specs.Act.{Act}
-use Rattle.heads.specs.History.{HeadHistory}
-use Rattle.heads.specs.Rows.{ActCase, numbersOf}
 use Rattle.heads.proofs.Rows.{head-by-rows}
 use Rattle.frame.specs.Call.{Call, opening, writing, loading, at}
-use Rattle.frame.specs.History.{Histories, noHistories, headFirst, loadNumber, callNumber, advanceAll}
+use Rattle.frame.specs.History.{Histories, noHistories, headFirst, callNumber, advanceAll}
 use Rattle.frame.specs.Rows.{AtCase, no-head, of-head, LoadCase, no-entry, Row, NumbersByRows}
 use Rattle.frame.proofs.Sound.{Sound, sound-all, sound-none}
 

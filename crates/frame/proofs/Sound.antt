@@ -11,11 +11,11 @@ use Rattle.sheets.proofs.Rows.{check-sheet}
 use Rattle.library.specs.Library.{libraryOf, entryAt}
 use Rattle.library.specs.Rows.{Held, nothing, of-sheet}
 use Rattle.library.proofs.RoundTrip.{same-entries, no-sheet}
-use Rattle.heads.specs.History.{HeadHistory, actNumber, grownBy}
+use Rattle.heads.specs.History.{HeadHistory, actNumber}
 use Rattle.heads.specs.Follows.{SoundHead}
 use Rattle.heads.proofs.Sound as head
 use Rattle.frame.specs.Call.{Call, opening, writing, loading, at}
-use Rattle.frame.specs.History.{Histories, noHistories, headFirst, loadNumber, callNumber, changedAt, withHistory, grown, advance, advanceAll}
+use Rattle.frame.specs.History.{Histories, noHistories, headFirst, callNumber, withHistory, grown, advance, advanceAll}
 
 -- the library is that of a sheet, or none, and its entries are the sheet's
 pub record SoundSheet (s : List ℕ) : Type 0 where

@@ -7,7 +7,6 @@ use Rattle.filter_core.specs.Rows.{Only, Exactly}
 use Rattle.sheets.specs.Sheet.{entriesOf}
 use Rattle.sheets.specs.Rows.{SheetRow}
 use Rattle.library.specs.Rows.{WriteCase}
-use Rattle.heads.specs.Act.{Act}
 use Rattle.heads.specs.Rows.{ActCase, numbersOf}
 use Rattle.frame.specs.Call.{Call, opening, writing, loading, at}
 use Rattle.frame.specs.History.{Histories, noHistories, callNumber, advanceAll}

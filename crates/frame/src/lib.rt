@@ -171,7 +171,11 @@ impl Frame {
         if 11 < head {
             return answer_of(1, self);
         }
-        settle(self, head, held_at(self, head).run_two(form, input, first, second))
+        settle(
+            self,
+            head,
+            held_at(self, head).run_two(form, input, first, second),
+        )
     }
 
     // Clears what a head's filter retains of past samples.

@@ -172,14 +172,15 @@ fn last(state: State, buffer: &[u8], out: &mut [u8]) -> State {
 }
 
 // What is held after the lines of a read, `kept` bytes of the last. That line may be too long already.
-fn hold(taken: Taken, kept: usize) -> State {
+fn hold(taken: Taken, kept: usize, out: &mut [u8]) -> State {
     let frame = taken.frame;
     if LONGEST < kept {
+        let at = text::put_long_line(out, 0);
         return State {
             frame,
             held: 0,
             skipping: true,
-            going: io::write_all(STDOUT_FILENO, b"? long line\n"),
+            going: send(out, at),
         };
     }
     State {
@@ -196,7 +197,7 @@ fn take(state: State, end: usize, buffer: &mut [u8], out: &mut [u8]) -> State {
     let start = lines_begin(&buffer[..n], state.skipping);
     let taken = take_lines(state.frame, start, &buffer[..n], out);
     let kept = keep(buffer, taken.used, n);
-    hold(taken, kept)
+    hold(taken, kept, out)
 }
 
 // Reads once, and answers what there is then.

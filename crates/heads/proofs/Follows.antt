@@ -17,7 +17,7 @@ use Rattle.runs.specs.Form.{runRefusal, runTwoRefusal}
 use Rattle.lists.specs.Table.{table}
 use Rattle.heads.specs.Act.{Act, run, runTwo, rest, mark, back, drop, HeadReply, answered, marked}
 use Rattle.heads.specs.Snapshot.{emptySnapshot, loadedWith, Sewn, left, onFilter, runBy, runSewn, runTwoBy, runTwoSewn, restBy, restSewn}
-use Rattle.heads.specs.Head.{emptyHead, holding, Turned, refuse, accept, put, lastMark, nextMark, markedHead, markBy, marksBelow, onlyIf, restored, backHead, dropHead, atMark, turn}
+use Rattle.heads.specs.Head.{emptyHead, holding, Turned, refuseTurn, acceptTurn, put, lastMark, nextMark, markedHead, markBy, marksBelow, onlyIf, restored, backHead, dropHead, atMark, turn}
 use Rattle.heads.specs.History.{Event, loadEvent, HeadHistory, noHistory, lastType, unlessBare, noMark, actNumber, adding, grownBy, advanceBy, snapshotFrom, snapshotOf, acceptedAct, actReply}
 use Rattle.heads.specs.Follows.{headFor, Fits, bare, held, SoundHead, HeadFollows}
 use Rattle.lists.proofs.Tables.{getD-table, table-ext, set-table}
@@ -62,7 +62,7 @@ marks-cut r k =
 
 -- a refusal's number, or a turn where it is 0
 abbrev unless : Head → Act → ℕ → Turned → Turned
-unless x a n t = unlessRefused n (refuse x a n) t
+unless x a n t = unlessRefused n (refuseTurn x a n) t
 
 -- a call that asks for the filter: n is its number by the filter's type, t what it does by the filter, u what it comes to
 on-filter : (x : Head) (a : Act) (l : List Event) (σ : Slot) (n : FilterType → ℕ) (t : Filter → Sewn) (u : Sewn) → Fits l σ
@@ -71,31 +71,31 @@ on-filter : (x : Head) (a : Act) (l : List Event) (σ : Slot) (n : FilterType �
 on-filter x a [] Empty n t u bare h = refl
 on-filter x a (i ∷ l) (Holds f) n t u (held e) h = rw (← e, h f refl) (go (eqb (n (typeOf f)) 0))
   where
-    go : (b : Bool) → put x (cond b u (left (x .now) a (n (typeOf f)))) ≡ cond b (put x u) (refuse x a (n (typeOf f)))
+    go : (b : Bool) → put x (cond b u (left (x .now) a (n (typeOf f)))) ≡ cond b (put x u) (refuseTurn x a (n (typeOf f)))
     go true = refl
     go false = refl
 
 -- a test that gives a number, and then a turn by that number
-numbered : (x : Head) (a : Act) (b : Bool) (n : ℕ) (t : Turned) → eqb n 0 ≡ false → cond b (refuse x a n) t ≡ unless x a (cond b n 0) t
-numbered x a true n t e = rw e
-numbered x a false n t e = refl
+by-number : (x : Head) (a : Act) (b : Bool) (n : ℕ) (t : Turned) → eqb n 0 ≡ false → cond b (refuseTurn x a n) t ≡ unless x a (cond b n 0) t
+by-number x a true n t e = rw e
+by-number x a false n t e = refl
 
 -- a mark asks whether there is a filter, and then whether there is room
 on-mark : (x : Head) (l : List Event) (σ : Slot) → Fits l σ
-    → markBy x σ ≡ unless x mark (unlessBare l (cond (ltb lastMark (x .marked)) 8 0)) (accept (marked 0 (nextMark x)) (markedHead x))
+    → markBy x σ ≡ unless x mark (unlessBare l (cond (ltb lastMark (x .marked)) 8 0)) (acceptTurn (marked 0 (nextMark x)) (markedHead x))
 on-mark x [] Empty bare = refl
-on-mark x (i ∷ l) (Holds f) (held e) = numbered x mark (ltb lastMark (x .marked)) _ _ refl
+on-mark x (i ∷ l) (Holds f) (held e) = by-number x mark (ltb lastMark (x .marked)) _ _ refl
 
 -- the tests of back and drop, of which the second never refuses the head of a history
 there : (x : HeadHistory) (a : Act) (m : ℕ) {y z : Head} → length (x .checkpoints) ≤ 4 → (m < length (x .checkpoints) → y ≡ z)
-    → atMark (headFor x) a m (accept (answered 0) y) ≡ unless (headFor x) a (noMark x m) (accept (answered 0) z)
+    → atMark (headFor x) a m (acceptTurn (answered 0) y) ≡ unless (headFor x) a (noMark x m) (acceptTurn (answered 0) z)
 there x a m {y} {z} four same = go (leb (length (x .checkpoints)) m) refl
   where
     go : (b : Bool) → leb (length (x .checkpoints)) m ≡ b
-        → cond b (refuse (headFor x) a 7) (cond (ltb 3 m) (refuse (headFor x) a 7) (accept (answered 0) y)) ≡ unless (headFor x) a (cond b 7 0) (accept (answered 0) z)
+        → cond b (refuseTurn (headFor x) a 7) (cond (ltb 3 m) (refuseTurn (headFor x) a 7) (acceptTurn (answered 0) y)) ≡ unless (headFor x) a (cond b 7 0) (acceptTurn (answered 0) z)
     go true q = refl
     go false q =
-        let h : m < length (x .checkpoints) = leb-false (length (x .checkpoints)) m q in rw (le-ltb 3 m (omega arith)) (ap (accept (answered 0)) (same h))
+        let h : m < length (x .checkpoints) = leb-false (length (x .checkpoints)) m q in rw (le-ltb 3 m (omega arith)) (ap (acceptTurn (answered 0)) (same h))
 
 module _ (x : HeadHistory) (S : SoundHead x) where
   back-pictured : (m : ℕ) → m < length (x .checkpoints) → backHead (headFor x) m ≡ headFor (grownBy x (back m))
@@ -115,7 +115,7 @@ module _ (x : HeadHistory) (S : SoundHead x) where
   -- the turn that the history says, and what a head then holds
 
   abbrev said : Act → Turned
-  said a = accept (acceptedAct x a) (headFor (grownBy x a))
+  said a = acceptTurn (acceptedAct x a) (headFor (grownBy x a))
 
   abbrev sewnBy : Act → Sewn
   sewnBy a = record { reply = acceptedAct x a; now = snapshotOf (grownBy x a .history) }
@@ -139,10 +139,10 @@ module _ (x : HeadHistory) (S : SoundHead x) where
 
 -- a turn by a number, told apart into its reply and its head
 apart : (x : HeadHistory) (a : Act) (n : ℕ) (r : HeadReply) (g : HeadHistory)
-    → unless (headFor x) a n (accept r (headFor g)) ≡ record { reply = cond (eqb n 0) r (refuse (headFor x) a n .reply); head = headFor (cond (eqb n 0) g x) }
+    → unless (headFor x) a n (acceptTurn r (headFor g)) ≡ record { reply = cond (eqb n 0) r (refuseTurn (headFor x) a n .reply); head = headFor (cond (eqb n 0) g x) }
 apart x a n r g = go (eqb n 0)
   where
-    go : (b : Bool) → cond b (accept r (headFor g)) (refuse (headFor x) a n) ≡ record { reply = cond b r (refuse (headFor x) a n .reply); head = headFor (cond b g x) }
+    go : (b : Bool) → cond b (acceptTurn r (headFor g)) (refuseTurn (headFor x) a n) ≡ record { reply = cond b r (refuseTurn (headFor x) a n .reply); head = headFor (cond b g x) }
     go true = refl
     go false = refl
 

@@ -5,7 +5,7 @@ use mathlib.Core.Bool.{Bool, true, false, cond}
 use lib.Dec.{leb, ltb, eqb}
 use Rattle.heads.specs.Act.{Act, run, runTwo, rest, mark, back, drop, HeadReply, headNumber, refusedAct}
 use Rattle.heads.specs.Snapshot.{Sewn, left, onFilter, runBy, runSewn, runTwoBy, runTwoSewn, restBy, restSewn}
-use Rattle.heads.specs.Head.{Turned, refuse, accept, put, lastMark, markedHead, markBy, backHead, dropHead, turn, RefusedLeaves}
+use Rattle.heads.specs.Head.{Turned, refuseTurn, acceptTurn, put, lastMark, markedHead, markBy, backHead, dropHead, turn, RefusedTurnLeaves}
 use Rattle.any_filter.specs.Cases.{typeOf}
 use Rattle.any_filter.specs.declared.Filter.{Filter}
 use Rattle.runs.specs.Form.{runRefusal, runTwoRefusal}
@@ -16,12 +16,12 @@ use Rattle.heads.specs.declared.Head.{Head}
 module _ (x : Head) (a : Act) where
   -- a turn that is accepted with the number 0, or refused
   abbrev Leaves : Turned → Type 0
-  Leaves t = (headNumber (t .reply) ≡ 0 → ⊥) → t ≡ refuse x a (headNumber (t .reply))
+  Leaves t = (headNumber (t .reply) ≡ 0 → ⊥) → t ≡ refuseTurn x a (headNumber (t .reply))
 
-  refusing : (n : ℕ) → headNumber (refusedAct n a) ≡ n → Leaves (refuse x a n)
+  refusing : (n : ℕ) → headNumber (refusedAct n a) ≡ n → Leaves (refuseTurn x a n)
   refusing n e z = rw e refl
 
-  accepting : (r : HeadReply) (y : Head) → headNumber r ≡ 0 → Leaves (accept r y)
+  accepting : (r : HeadReply) (y : Head) → headNumber r ≡ 0 → Leaves (acceptTurn r y)
   accepting r y e z = absurd (z e)
 
   either : (b : Bool) (t u : Turned) → Leaves t → Leaves u → Leaves (cond b t u)
@@ -41,7 +41,7 @@ marks : (x : Head) (σ : Slot) → Leaves x mark (markBy x σ)
 marks x Empty = refusing x mark 6 refl
 marks x (Holds f) = either x mark (ltb lastMark (x .marked)) _ _ (refusing x mark 8 refl) (accepting x mark _ (markedHead x) refl)
 
-pub refused-leaves : RefusedLeaves
+pub refused-leaves : RefusedTurnLeaves
 unfolding turn runSewn runTwoSewn restSewn
 refused-leaves x (run form us ys) =
     on-filter x (run form us ys) (x .now .slot) (runBy (x .now) form us ys) refl

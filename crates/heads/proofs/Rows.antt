@@ -1,7 +1,7 @@
 -- The numbers of the calls at a head, by their rows. Assumes nothing.
 use Prim.Native.Nat.{ℕ, _≤_, _<_}
 use mathlib.Core.Path.{_≡_, refl}
-use mathlib.Core.Bool.{Bool, true, false, cond}
+use mathlib.Core.Bool.{true}
 use mathlib.Core.List.{List, [], _∷_}
 use native.Mathlib.Omega.{arith}
 use borrow.Author.Tests.{ltb-true, ltb-false, leb-true, leb-false}
@@ -88,7 +88,6 @@ module _ (x : HeadHistory) (S : SoundHead x) where
       by-history (x .history) bare-mark held-mark (by-test (ltb 3 (length (x .checkpoints))) (λ q. full (four q)) (λ q. room (ltb-false _ _ q)) (λ q. none))
   by-act (back m) = by-test (leb (length (x .checkpoints)) m) (λ q. no-back (leb-true _ _ q)) (λ q. back-there (leb-false _ _ q)) (λ q. none)
   by-act (drop m) = by-test (leb (length (x .checkpoints)) m) (λ q. no-drop (leb-true _ _ q)) (λ q. drop-there (leb-false _ _ q)) (λ q. none)
-
 
 pub head-by-rows : HeadByRows
 head-by-rows x a S = exactly (by-act x S a)

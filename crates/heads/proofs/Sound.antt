@@ -22,7 +22,7 @@ use Rattle.heads.specs.Act.{Act, run, runTwo, rest, mark, back, drop}
 use Rattle.heads.specs.History.{Event, loadEvent, runEvent, restEvent, HeadHistory, noHistory, typeWith, typeFrom, lastType, unlessBare, actNumber, adding, grownBy, advanceBy, slotWith, snapshotWith, snapshotFrom, snapshotOf}
 use Rattle.heads.specs.Follows.{Fits, bare, held, Good, SoundHead}
 use Rattle.heads.specs.declared.Slot.{Slot}
-use Rattle.heads.specs.declared.Slot.the-variants.{Empty, Holds}
+use Rattle.heads.specs.declared.Slot.the-variants.{Holds}
 use Rattle.heads.specs.declared.Snapshot.{Snapshot}
 
 -- ---- histories with one event more

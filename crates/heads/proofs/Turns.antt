@@ -17,7 +17,7 @@ use Rattle.runs.specs.Run.{Ran, RanTwo}
 use Rattle.runs.specs.declared.RunForm.{RunForm}
 use Rattle.heads.specs.Act.{mark, back, drop}
 use Rattle.heads.specs.Snapshot.{emptySnapshot, holds, loadedWith, runSewn, runTwoSewn, restSewn, sewn, sewnPlainly, sewnWith, sewnWithTwo}
-use Rattle.heads.specs.Head.{emptyHead, lastMark, markedHead, nextMark, marksBelow, restored, turn, numbered, unmarked, plainly, withMark}
+use Rattle.heads.specs.Head.{emptyHead, lastMark, markedHead, nextMark, marksBelow, restored, turn, headNumbered, headUnmarked, turnedPlainly, turnedWithMark}
 use Rattle.heads.specs.declared.Slot.{Slot}
 use Rattle.heads.specs.declared.Slot.the-variants.{Empty, Holds}
 use Rattle.heads.specs.declared.Snapshot.{Snapshot}
@@ -85,43 +85,43 @@ module _ (x : Snapshot) where
 -- ---- marks
 
 module _ (x : Head) where
-  pub mark-bare : (r : HeadMarked) → x .now .slot ≡ Empty → r ≡ unmarked 6 x → withMark r ≡ turn x mark
+  pub mark-bare : (r : HeadMarked) → x .now .slot ≡ Empty → r ≡ headUnmarked 6 x → turnedWithMark r ≡ turn x mark
   unfolding turn
   mark-bare r e q = rw (q, e) refl
 
   module _ (p : Filter) (e : x .now .slot ≡ Holds p) where
-    pub mark-full : (r : HeadMarked) → lastMark < x .marked → r ≡ unmarked 8 x → withMark r ≡ turn x mark
+    pub mark-full : (r : HeadMarked) → lastMark < x .marked → r ≡ headUnmarked 8 x → turnedWithMark r ≡ turn x mark
     unfolding turn
     mark-full r m q = rw (q, e, lt-ltb _ _ m) refl
 
-    pub mark-accepted : x .marked ≤ lastMark → withMark (record { number = 0; mark = nextMark x; head = markedHead x }) ≡ turn x mark
+    pub mark-accepted : x .marked ≤ lastMark → turnedWithMark (record { number = 0; mark = nextMark x; head = markedHead x }) ≡ turn x mark
     unfolding turn
     mark-accepted m = rw (e, le-ltb _ _ m) refl
 
   module _ (m : ℕ) (r : HeadAnswer) where
-    pub back-none : x .marked ≤ m → r ≡ numbered 7 x → plainly r ≡ turn x (back m)
+    pub back-none : x .marked ≤ m → r ≡ headNumbered 7 x → turnedPlainly r ≡ turn x (back m)
     unfolding turn
     back-none n q = rw (q, le-leb _ _ n) refl
 
-    pub back-past : m < x .marked → 3 < m → r ≡ numbered 7 x → plainly r ≡ turn x (back m)
+    pub back-past : m < x .marked → 3 < m → r ≡ headNumbered 7 x → turnedPlainly r ≡ turn x (back m)
     unfolding turn
     back-past n k q = rw (q, lt-leb _ _ n, lt-ltb _ _ k) refl
 
     pub back-accepted : (ms : List Snapshot) → m < x .marked → m ≤ 3 → ms ≡ marksBelow (m + 1) (x .marks)
-        → r ≡ numbered 0 (record { now = restored x m; marks = ms; marked = m + 1 }) → plainly r ≡ turn x (back m)
+        → r ≡ headNumbered 0 (record { now = restored x m; marks = ms; marked = m + 1 }) → turnedPlainly r ≡ turn x (back m)
     unfolding turn
     back-accepted ms n k w q = rw (q, w, lt-leb _ _ n, le-ltb _ _ k) refl
 
-    pub drop-none : x .marked ≤ m → r ≡ numbered 7 x → plainly r ≡ turn x (drop m)
+    pub drop-none : x .marked ≤ m → r ≡ headNumbered 7 x → turnedPlainly r ≡ turn x (drop m)
     unfolding turn
     drop-none n q = rw (q, le-leb _ _ n) refl
 
-    pub drop-past : m < x .marked → 3 < m → r ≡ numbered 7 x → plainly r ≡ turn x (drop m)
+    pub drop-past : m < x .marked → 3 < m → r ≡ headNumbered 7 x → turnedPlainly r ≡ turn x (drop m)
     unfolding turn
     drop-past n k q = rw (q, lt-leb _ _ n, lt-ltb _ _ k) refl
 
     pub drop-accepted : (ms : List Snapshot) → m < x .marked → m ≤ 3 → ms ≡ marksBelow m (x .marks)
-        → r ≡ numbered 0 (record { now = x .now; marks = ms; marked = m }) → plainly r ≡ turn x (drop m)
+        → r ≡ headNumbered 0 (record { now = x .now; marks = ms; marked = m }) → turnedPlainly r ≡ turn x (drop m)
     unfolding turn
     drop-accepted ms n k w q = rw (q, w, lt-leb _ _ n, le-ltb _ _ k) refl
 

@@ -29,11 +29,11 @@ pub record Turned : Type 0 where
   pub head : Head
 
 -- a refused call leaves the head
-abbrev pub refuse : Head → Act → ℕ → Turned
-refuse x a n = record { reply = refusedAct n a; head = x }
+abbrev pub refuseTurn : Head → Act → ℕ → Turned
+refuseTurn x a n = record { reply = refusedAct n a; head = x }
 
-abbrev pub accept : HeadReply → Head → Turned
-accept r x = record { reply = r; head = x }
+abbrev pub acceptTurn : HeadReply → Head → Turned
+acceptTurn r x = record { reply = r; head = x }
 
 -- a call that changes what the head holds
 abbrev pub put : Head → Sewn → Turned
@@ -52,8 +52,8 @@ nextMark x = x .marked
 
 -- an empty head has nothing to mark
 abbrev pub markBy : Head → Slot → Turned
-markBy x Empty = refuse x mark 6
-markBy x (Holds f) = cond (ltb lastMark (x .marked)) (refuse x mark 8) (accept (marked 0 (nextMark x)) (markedHead x))
+markBy x Empty = refuseTurn x mark 6
+markBy x (Holds f) = cond (ltb lastMark (x .marked)) (refuseTurn x mark 8) (acceptTurn (marked 0 (nextMark x)) (markedHead x))
 
 abbrev pub onlyIf : Bool → Snapshot → Snapshot
 onlyIf b s = cond b s emptySnapshot
@@ -76,30 +76,30 @@ dropHead x m = record { now = x .now; marks = marksBelow m (x .marks); marked = 
 
 -- no head has a mark above 3, so the second test refuses none that stands
 abbrev pub atMark : Head → Act → ℕ → Turned → Turned
-atMark x a m t = cond (leb (x .marked) m) (refuse x a 7) (cond (ltb 3 m) (refuse x a 7) t)
+atMark x a m t = cond (leb (x .marked) m) (refuseTurn x a 7) (cond (ltb 3 m) (refuseTurn x a 7) t)
 
 unfoldable pub turn : Head → Act → Turned
 turn x (run form us ys) = put x (runSewn (x .now) form us ys)
 turn x (runTwo form us ys zs) = put x (runTwoSewn (x .now) form us ys zs)
 turn x rest = put x (restSewn (x .now))
 turn x mark = markBy x (x .now .slot)
-turn x (back m) = atMark x (back m) m (accept (answered 0) (backHead x m))
-turn x (drop m) = atMark x (drop m) m (accept (answered 0) (dropHead x m))
+turn x (back m) = atMark x (back m) m (acceptTurn (answered 0) (backHead x m))
+turn x (drop m) = atMark x (drop m) m (acceptTurn (answered 0) (dropHead x m))
 
 -- a call whose number is not 0 leaves the head and its outputs
-abbrev pub RefusedLeaves : Type 0
-RefusedLeaves = (x : Head) (a : Act) → (headNumber (turn x a .reply) ≡ 0 → ⊥) → turn x a ≡ refuse x a (headNumber (turn x a .reply))
+abbrev pub RefusedTurnLeaves : Type 0
+RefusedTurnLeaves = (x : Head) (a : Act) → (headNumber (turn x a .reply) ≡ 0 → ⊥) → turn x a ≡ refuseTurn x a (headNumber (turn x a .reply))
 
 -- ---- the answers of the code
 
-abbrev pub numbered : ℕ → Head → HeadAnswer
-numbered n x = record { number = n; head = x }
+abbrev pub headNumbered : ℕ → Head → HeadAnswer
+headNumbered n x = record { number = n; head = x }
 
-abbrev pub unmarked : ℕ → Head → HeadMarked
-unmarked n x = record { number = n; mark = 0; head = x }
+abbrev pub headUnmarked : ℕ → Head → HeadMarked
+headUnmarked n x = record { number = n; mark = 0; head = x }
 
-abbrev pub plainly : HeadAnswer → Turned
-plainly a = record { reply = answered (a .number); head = a .head }
+abbrev pub turnedPlainly : HeadAnswer → Turned
+turnedPlainly a = record { reply = answered (a .number); head = a .head }
 
-abbrev pub withMark : HeadMarked → Turned
-withMark a = record { reply = marked (a .number) (a .mark); head = a .head }
+abbrev pub turnedWithMark : HeadMarked → Turned
+turnedWithMark a = record { reply = marked (a .number) (a .mark); head = a .head }

@@ -11,7 +11,7 @@ use sheets::Entry;
 ghost use mathlib.Core.Path.{_≡_};
 ghost use Rattle.heads.specs.Act.{mark, back, drop};
 ghost use Rattle.heads.specs.Snapshot.{holds, loadedWith, runSewn, runTwoSewn, restSewn, sewn, sewnPlainly, sewnWith, sewnWithTwo};
-ghost use Rattle.heads.specs.Head.{emptyHead, holding, turn, numbered, unmarked, plainly, withMark};
+ghost use Rattle.heads.specs.Head.{emptyHead, holding, turn, headNumbered, headUnmarked, turnedPlainly, turnedWithMark};
 ghost use Rattle.heads.specs.Follows.{HeadFollows};
 ghost use Rattle.heads.specs.Rows.{HeadByRows};
 
@@ -68,7 +68,7 @@ fn snapshot_answer(number: u8, now: Snapshot) -> SnapshotAnswer
 }
 
 fn head_answer(number: u8, head: Head) -> HeadAnswer
-    ensures { λ r. ⌜ r ≡ numbered number head ⌝ }
+    ensures { λ r. ⌜ r ≡ headNumbered number head ⌝ }
 {
     HeadAnswer {
         number: number,
@@ -77,7 +77,7 @@ fn head_answer(number: u8, head: Head) -> HeadAnswer
 }
 
 fn no_mark(number: u8, head: Head) -> HeadMarked
-    ensures { λ r. ⌜ r ≡ unmarked number head ⌝ }
+    ensures { λ r. ⌜ r ≡ headUnmarked number head ⌝ }
 {
     HeadMarked {
         number: number,
@@ -165,7 +165,7 @@ impl Head {
 
     // Records what the head holds, and answers the mark's number.
     pub fn mark(self) -> HeadMarked
-        ensures { λ r. ⌜ withMark r ≡ turn self mark ⌝ }
+        ensures { λ r. ⌜ turnedWithMark r ≡ turn self mark ⌝ }
     {
         let now = self.now;
         let slot = now.slot;
@@ -191,7 +191,7 @@ impl Head {
 
     // Restores mark m, keeps it, and drops those above.
     pub fn back(self, m: usize) -> HeadAnswer
-        ensures { λ r. ⌜ plainly r ≡ turn self (back m) ⌝ }
+        ensures { λ r. ⌜ turnedPlainly r ≡ turn self (back m) ⌝ }
     {
         if self.marked <= m {
             return head_answer(7, self);
@@ -213,7 +213,7 @@ impl Head {
 
     // Drops mark m and those above. What the head holds stays.
     pub fn drop(self, m: usize) -> HeadAnswer
-        ensures { λ r. ⌜ plainly r ≡ turn self (drop m) ⌝ }
+        ensures { λ r. ⌜ turnedPlainly r ≡ turn self (drop m) ⌝ }
     {
         if self.marked <= m {
             return head_answer(7, self);
