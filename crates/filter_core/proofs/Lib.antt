@@ -1,3 +1,4 @@
+pub mod Choices
 pub mod Passes
 pub mod Horner
 pub mod Refusals

@@ -5,7 +5,11 @@ use Prim.Native.Nat.{ℕ}
 use lib.Dec.{eqb}
 use borrow.Author.Needs.{needs}
 use borrow.Author.Tests.{eq-eqb, ne-eqb}
-use Rattle.filter_core.specs.Refusal.{stepRefusal, unlessRefused}
+use lib.Ieee.{Float, lt}
+use Rattle.filter_core.specs.Arithmetic.{zeroᶠ}
+use Rattle.filter_core.specs.Refusal.{stepRefusal, frequencyRefusal, unlessRefused}
+use Rattle.filter_core.specs.declared.FrequencyApproximation.{FrequencyApproximation}
+use Rattle.filter_core.specs.declared.FrequencyApproximation.the-variants.{Exact}
 
 module _ (n r : ℕ) (e : n ≡ r) where
   pub refusing : (n ≡ 0 → ⊥) → eqb r 0 ≡ false
@@ -33,6 +37,16 @@ module _ (d : ℕ) where
 
   pub a-step : (d ≡ 0 → ⊥) → 0 ≡ stepRefusal d
   a-step z = rw (ne-eqb d 0 z)
+
+-- the number of a frequency in Exact
+module _ (f : Float) {a : FrequencyApproximation} (e : a ≡ Exact) where
+  pub refused-frequency : lt f zeroᶠ ≡ true → 11 ≡ frequencyRefusal f a
+  refused-frequency l = rw (e, l)
+
+  pub taken-frequency : lt f zeroᶠ ≡ false → 0 ≡ frequencyRefusal f a
+  taken-frequency l = rw (e, l)
+
+pub ruleset frequencies = (refused-frequency, taken-frequency, needs)
 
 -- what `search` is handed at each need of a call that can be refused
 pub ruleset refusals = (zero-is, stays, goes, needs)

@@ -1,3 +1,4 @@
+use Rattle.filter_core.proofs.Refusals.{frequencies}
 use borrow.Author.Needs.{needs}
 use Rattle.filter_core.proofs.frequency_refusal.Statement.{statement}
 use Rattle.filter_core.proofs.frequency_refusal.Tie as tie
@@ -10,8 +11,8 @@ frequency-refusal-spec =
     (λ c. search needs)
     (λ c. search needs)
     (λ c. search needs)
-    (λ c. rw (c .before .enum-told .given .1, c .if1 .taken))
-    (λ c. rw (c .before .enum-told .given .1, c .if1 .left))
+    (λ c. search frequencies)
+    (λ c. search frequencies)
     (λ c. search needs)
     (λ c. search needs)
     (λ c. search needs))

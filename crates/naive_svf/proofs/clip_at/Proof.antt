@@ -1,3 +1,4 @@
+use Rattle.filter_core.proofs.Choices.{choosing}
 use Rattle.naive_svf.proofs.clip_at.Statement.{statement}
 use Rattle.naive_svf.proofs.clip_at.Tie as tie
 
@@ -5,5 +6,5 @@ pub clip-at-spec : {M : Type 1} → statement M
 clip-at-spec =
     tie.close
     (tie.spec
-    (λ c. rw (c .if1 .taken))
-    (λ c. rw (c .if1 .left)))
+    (λ c. search choosing)
+    (λ c. search choosing))

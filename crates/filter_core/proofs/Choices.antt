@@ -1,0 +1,14 @@
+-- A value that a test picks. Assumes nothing.
+use mathlib.Core.Path.{_≡_}
+use mathlib.Core.Bool.{Bool, true, false, cond}
+use borrow.Author.Needs.{needs}
+
+module _ {A : Type 0} (b : Bool) (x y z : A) where
+  pub first-of : b ≡ true → z ≡ x → z ≡ cond b x y
+  first-of e p = rw e p
+
+  pub second-of : b ≡ false → z ≡ y → z ≡ cond b x y
+  second-of e p = rw e p
+
+-- what `search` is handed where the arms of an `if` return
+pub ruleset choosing = (first-of, second-of, needs)
