@@ -5,7 +5,7 @@ use mathlib.Core.Bool.{Bool, true, false, cond}
 use lib.Dec.{leb, ltb, eqb}
 use Rattle.heads.specs.Act.{Act, run, runTwo, rest, mark, back, drop, HeadReply, headNumber, refusedAct}
 use Rattle.heads.specs.Snapshot.{Sewn, left, onFilter, runBy, runSewn, runTwoBy, runTwoSewn, restBy, restSewn}
-use Rattle.heads.specs.Head.{Turned, refuseTurn, acceptTurn, put, lastMark, markedHead, markBy, backHead, dropHead, turn, RefusedTurnLeaves}
+use Rattle.heads.specs.Head.{Turned, refuseTurn, acceptTurn, put, lastMark, markedHead, markBy, backHead, dropHead, turn}
 use Rattle.any_filter.specs.Cases.{typeOf}
 use Rattle.any_filter.specs.declared.Filter.{Filter}
 use Rattle.runs.specs.Form.{runRefusal, runTwoRefusal}
@@ -41,7 +41,8 @@ marks : (x : Head) (σ : Slot) → Leaves x mark (markBy x σ)
 marks x Empty = refusing x mark 6 refl
 marks x (Holds f) = either x mark (ltb lastMark (x .marked)) _ _ (refusing x mark 8 refl) (accepting x mark _ (markedHead x) refl)
 
-pub refused-leaves : RefusedTurnLeaves
+-- a call whose number is not 0 leaves the head and its outputs
+pub refused-leaves : (x : Head) (a : Act) → (headNumber (turn x a .reply) ≡ 0 → ⊥) → turn x a ≡ refuseTurn x a (headNumber (turn x a .reply))
 unfolding turn runSewn runTwoSewn restSewn
 refused-leaves x (run form us ys) =
     on-filter x (run form us ys) (x .now .slot) (runBy (x .now) form us ys) refl

@@ -18,7 +18,6 @@ use Rattle.runs.specs.declared.RunForm.{RunForm}
 use Rattle.heads.specs.Act.{mark, back, drop}
 use Rattle.heads.specs.Snapshot.{emptySnapshot, holds, loadedWith, runSewn, runTwoSewn, restSewn, sewn, sewnPlainly, sewnWith, sewnWithTwo}
 use Rattle.heads.specs.Head.{emptyHead, lastMark, markedHead, nextMark, marksBelow, restored, turn, headNumbered, headUnmarked, turnedPlainly, turnedWithMark}
-use Rattle.heads.specs.declared.Slot.{Slot}
 use Rattle.heads.specs.declared.Slot.the-variants.{Empty, Holds}
 use Rattle.heads.specs.declared.Snapshot.{Snapshot}
 use Rattle.heads.specs.declared.SnapshotAnswer.{SnapshotAnswer}

@@ -1,12 +1,11 @@
 -- What each call does to a head.
 use Prim.Native.Nat.{ℕ, _+_}
-use mathlib.Core.Path.{_≡_}
 use mathlib.Core.Bool.{Bool, cond}
 use mathlib.Core.List.{List}
 use lib.Dec.{leb, ltb}
 use lib.ListN.{getD, set, replicate}
 use Rattle.lists.specs.Table.{table}
-use Rattle.heads.specs.Act.{Act, run, runTwo, rest, mark, back, drop, HeadReply, answered, marked, headNumber, refusedAct}
+use Rattle.heads.specs.Act.{Act, run, runTwo, rest, mark, back, drop, HeadReply, answered, marked, refusedAct}
 use Rattle.heads.specs.Snapshot.{emptySnapshot, Sewn, runSewn, runTwoSewn, restSewn}
 use Rattle.heads.specs.declared.Slot.{Slot}
 use Rattle.heads.specs.declared.Slot.the-variants.{Empty, Holds}
@@ -85,10 +84,6 @@ turn x rest = put x (restSewn (x .now))
 turn x mark = markBy x (x .now .slot)
 turn x (back m) = atMark x (back m) m (acceptTurn (answered 0) (backHead x m))
 turn x (drop m) = atMark x (drop m) m (acceptTurn (answered 0) (dropHead x m))
-
--- a call whose number is not 0 leaves the head and its outputs
-abbrev pub RefusedTurnLeaves : Type 0
-RefusedTurnLeaves = (x : Head) (a : Act) → (headNumber (turn x a .reply) ≡ 0 → ⊥) → turn x a ≡ refuseTurn x a (headNumber (turn x a .reply))
 
 -- ---- the answers of the code
 

@@ -4,7 +4,6 @@ use mathlib.Core.Path.{_≡_, refl}
 use mathlib.Core.List.{List, [], _∷_}
 use mathlib.Core.Logic.{_⊎_, inl, inr}
 use native.Mathlib.Omega.{arith}
-use borrow.Author.Needs.{needs}
 use borrow.Author.Tests.{lt-ltb, le-ltb, eq-eqb, ne-eqb}
 use lib.ListN.{length}
 use Rattle.filter_core.specs.Rows.{First, none, here, later}
@@ -29,13 +28,10 @@ module _ {n m : ℕ} where
   has-room h c = omega (arith, short-case refl c)
 
 module _ (n m : ℕ) where
-  pub write-none : n < 1 → 2 ≡ writeRefusal n m
+  write-none : n < 1 → 2 ≡ writeRefusal n m
   write-none a = rw (lt-ltb n) refl
 
-  pub write-many : 1 ≤ n → 64 < n → 2 ≡ writeRefusal n m
-  write-many a b = rw (le-ltb n, lt-ltb 64) refl
-
-  pub write-short : 1 ≤ n → n ≤ 64 → m < 2 + 13 * n → 12 ≡ writeRefusal n m
+  write-short : 1 ≤ n → n ≤ 64 → m < 2 + 13 * n → 12 ≡ writeRefusal n m
   write-short a b c = rw (le-ltb n, le-ltb 64, lt-ltb m) refl
 
   pub write-fits : 1 ≤ n → n ≤ 64 → 2 + 13 * n ≤ m → 0 ≡ writeRefusal n m
@@ -61,5 +57,3 @@ write-row l out h =
 pub write-by-rows : WriteByRows
 write-by-rows l n nothing out = write-row l out (omega arith)
 write-by-rows l n (of-sheet h) out = write-row l out (h .size .most)
-
-pub ruleset refusals = (write-none, write-many, write-short, write-fits, needs)

@@ -1,12 +1,12 @@
 -- Writing a library. Assumes nothing.
 use Prim.Native.Nat.{ℕ, _+_, _*_, _%_, _/_, _≤_, _<_}
 use mathlib.Core.Path.{_≡_, refl, sym, ap, _∙_}
-use mathlib.Core.Bool.{Bool, true, false}
+use mathlib.Core.Bool.{Bool, true, false, cond}
 use mathlib.Core.List.{List, [], _∷_, map}
 use mathlib.Core.Logic.{_⊎_, inl, inr}
 use native.Mathlib.Omega.{arith}
 use borrow.Author.Needs.{needs, length-unmapped}
-use borrow.Author.Tests.{eqb-true}
+use borrow.Author.Tests.{eqb-true, lt-ltb}
 use lib.Dec.{eqb}
 use lib.ListN.{length, take, length-append}
 use lib.Seq.{length-take-le}
@@ -17,7 +17,6 @@ use Rattle.library.specs.Library.{zeroBytes, bytesOf, writeRefusal, writ
 use Rattle.library.specs.declared.Library.{Library}
 use Rattle.library.specs.declared.Written.{Written}
 use Rattle.library.proofs.Zeros.{length-zero-bytes}
-use Rattle.library.proofs.Rows.{write-many}
 
 -- the arrays have room for as many as 64 entries
 module _ (l : List ℕ) (n : ℕ) (h : n ≤ 64) where
@@ -48,13 +47,18 @@ put-together l {a} {b} {w} {x} {y} k h p q d e f =
 
 -- ---- what is written of it
 
+either-way : (b : Bool) (x : ℕ) → cond b x x ≡ x
+either-way true x = refl
+either-way false x = refl
+
+-- more than 64 are refused, whatever the first test is
 pub few : (n room : ℕ) {number : ℕ} → number ≡ writeRefusal n room → number ≡ 0 → n ≤ 64
 few n room e z = go (below 64 n)
   where
     go : (64 < n) ⊎ (n ≤ 64) → n ≤ 64
     go (inl a) =
-        let b : 1 ≤ n = omega arith in
-        let c : _≡_ {A = ℕ} 2 0 = write-many n room b a ∙ sym e ∙ z in
+        let w : writeRefusal n room ≡ 2 = rw (lt-ltb 64 n a, either-way) refl in
+        let c : _≡_ {A = ℕ} 0 2 = sym z ∙ e ∙ w in
         absurd (omega arith)
     go (inr a) = a
 

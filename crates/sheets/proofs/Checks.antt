@@ -44,19 +44,19 @@ first-none f n e p a b = let w : e ≡ n = omega arith in sym (rw w at p)
 -- ---- sizes
 
 module _ (l n : ℕ) where
-  pub size-short : l < 2 → 2 ≡ sizeRefusal l n
+  size-short : l < 2 → 2 ≡ sizeRefusal l n
   size-short a = rw (lt-ltb l) refl
 
-  pub size-none : 2 ≤ l → n < 1 → 2 ≡ sizeRefusal l n
+  size-none : 2 ≤ l → n < 1 → 2 ≡ sizeRefusal l n
   size-none a b = rw (le-ltb l, lt-ltb n) refl
 
-  pub size-many : 2 ≤ l → 1 ≤ n → 64 < n → 2 ≡ sizeRefusal l n
+  size-many : 2 ≤ l → 1 ≤ n → 64 < n → 2 ≡ sizeRefusal l n
   size-many a b c = rw (le-ltb l, le-ltb n, lt-ltb) refl
 
-  pub size-fits : 2 ≤ l → 1 ≤ n → n ≤ 64 → l ≡ 2 + 13 * n → 0 ≡ sizeRefusal l n
+  size-fits : 2 ≤ l → 1 ≤ n → n ≤ 64 → l ≡ 2 + 13 * n → 0 ≡ sizeRefusal l n
   size-fits a b c d = rw (le-ltb l, le-ltb n, le-ltb, eq-eqb) refl
 
-  pub size-other : 2 ≤ l → 1 ≤ n → n ≤ 64 → (l ≡ 2 + 13 * n → ⊥) → 2 ≡ sizeRefusal l n
+  size-other : 2 ≤ l → 1 ≤ n → n ≤ 64 → (l ≡ 2 + 13 * n → ⊥) → 2 ≡ sizeRefusal l n
   size-other a b c d = rw (le-ltb l, le-ltb n, le-ltb, ne-eqb) refl
 
 -- a size is right and accepted, or neither
@@ -149,8 +149,6 @@ module _ (s : List ℕ) (e : ℕ) {number : ℕ} (p : number ≡ checkEntryOf s 
 
   pub found-entry : {n : ℕ} → number ≡ 0 → n ≡ entriesOf s → e < n
   found-entry {n} z q = let h = found s e (sym p ∙ z) .entry in omega arith
-
-pub ruleset sizes = (size-short, size-none, size-many, size-fits, size-other, needs)
 
 pub ruleset numbers = (entry-inside, entry-past, needs)
 
