@@ -2,6 +2,7 @@
 use mathlib.Core.Path.{_≡_}
 use mathlib.Core.Bool.{Bool, true, false, cond}
 use borrow.Author.Needs.{needs}
+use borrow.Author.Tests.{eq-eqb, ne-eqb, lt-ltb, le-ltb}
 
 module _ {A : Type 0} (b : Bool) (x y z : A) where
   pub first-of : b ≡ true → z ≡ x → z ≡ cond b x y
@@ -12,3 +13,6 @@ module _ {A : Type 0} (b : Bool) (x y z : A) where
 
 -- what `search` is handed where the arms of an `if` return
 pub ruleset choosing = (first-of, second-of, needs)
+
+-- and where the tests are of numbers. No number of the tests or of the answers stands here: which are the right ones is for the rows
+pub ruleset deciding = (first-of, second-of, eq-eqb, ne-eqb, lt-ltb, le-ltb, needs)

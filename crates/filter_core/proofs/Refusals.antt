@@ -5,11 +5,11 @@ use Prim.Native.Nat.{ℕ}
 use lib.Dec.{eqb}
 use borrow.Author.Needs.{needs}
 use borrow.Author.Tests.{eq-eqb, ne-eqb}
-use lib.Ieee.{Float, lt}
-use Rattle.filter_core.specs.Arithmetic.{zeroᶠ}
+use lib.Ieee.{Float}
 use Rattle.filter_core.specs.Refusal.{stepRefusal, frequencyRefusal, unlessRefused}
 use Rattle.filter_core.specs.declared.FrequencyApproximation.{FrequencyApproximation}
 use Rattle.filter_core.specs.declared.FrequencyApproximation.the-variants.{Exact}
+use Rattle.filter_core.proofs.Choices.{first-of, second-of}
 
 module _ (n r : ℕ) (e : n ≡ r) where
   pub refusing : (n ≡ 0 → ⊥) → eqb r 0 ≡ false
@@ -38,15 +38,11 @@ module _ (d : ℕ) where
   pub a-step : (d ≡ 0 → ⊥) → 0 ≡ stepRefusal d
   a-step z = rw (ne-eqb d 0 z)
 
--- the number of a frequency in Exact
-module _ (f : Float) {a : FrequencyApproximation} (e : a ≡ Exact) where
-  pub refused-frequency : lt f zeroᶠ ≡ true → 11 ≡ frequencyRefusal f a
-  refused-frequency l = rw (e, l)
+-- the number of a frequency in Exact, whatever it is
+pub in-exact : (f : Float) {a : FrequencyApproximation} {n : ℕ} → a ≡ Exact → n ≡ frequencyRefusal f Exact → n ≡ frequencyRefusal f a
+in-exact f e p = rw e p
 
-  pub taken-frequency : lt f zeroᶠ ≡ false → 0 ≡ frequencyRefusal f a
-  taken-frequency l = rw (e, l)
-
-pub ruleset frequencies = (refused-frequency, taken-frequency, needs)
+pub ruleset frequencies = (in-exact, first-of, second-of, needs)
 
 -- what `search` is handed at each need of a call that can be refused
 pub ruleset refusals = (zero-is, stays, goes, needs)

@@ -1,17 +1,24 @@
 -- The check of an entry, by its steps. Assumes nothing.
 use Prim.Native.Nat.{ℕ}
-use mathlib.Core.Path.{_≡_, refl, ap, _∙_}
+use mathlib.Core.Path.{_≡_, refl, sym, ap, _∙_}
+use mathlib.Core.Bool.{Bool}
 use mathlib.Core.List.{List}
 use borrow.Author.Needs.{needs}
 use Rattle.filter_core.specs.Arithmetic.{word}
 use Rattle.filter_core.specs.Refusal.{frequencyRefusal}
 use Rattle.filter_core.specs.declared.FrequencyApproximation.{FrequencyApproximation}
-use Rattle.words.specs.Word.{wordFrom}
+use Rattle.words.specs.Word.{wordFrom, otherNan}
+use Rattle.filter_core.proofs.Choices.{deciding}
 use Rattle.sheets.specs.Refusal.{settingRefusal, entryRefusal}
 use Rattle.sheets.specs.Sheet.{kindAt, settingAt, entryOf, entryIn, refusalAt}
 use Rattle.sheets.specs.declared.entry.Entry.{Entry}
 use Rattle.sheets.specs.declared.setter.Setter.{Setter}
 use Rattle.sheets.specs.declared.setter.Setter.the-variants.{OnePole, SvfFrequency, NaiveSvf}
+
+-- ---- a word
+
+pub nan-told : (w : ℕ) {r t : Bool} → r ≡ otherNan w → r ≡ t → otherNan w ≡ t
+nan-told w p q = sym p ∙ q
 
 -- ---- a frequency
 
@@ -36,6 +43,8 @@ pub refused-at : (s : List ℕ) (e : ℕ) {k r : ℕ} {x : List ℕ} {t : Entry}
 refused-at s e {k} {r} {x} {t} q y g h =
     let w : t ≡ entryIn s e = g ∙ rw (q, y) refl in
     h ∙ ap entryRefusal w
+
+pub ruleset wording = (nan-told, deciding)
 
 pub ruleset settings = (one-pole-setting, svf-setting, naive-setting, needs)
 
