@@ -6,10 +6,10 @@ use lib.Dec.{eqb}
 use borrow.Author.Needs.{needs}
 use borrow.Author.Tests.{eq-eqb, ne-eqb}
 use lib.Ieee.{Float}
-use Rattle.filter_core.specs.Refusal.{stepRefusal, frequencyRefusal, unlessRefused}
+use Rattle.filter_core.specs.Refusal.{frequencyRefusal, unlessRefused}
 use Rattle.filter_core.specs.declared.FrequencyApproximation.{FrequencyApproximation}
 use Rattle.filter_core.specs.declared.FrequencyApproximation.the-variants.{Exact}
-use Rattle.filter_core.proofs.Choices.{first-of, second-of}
+use Rattle.filter_core.proofs.Choices.{choosing}
 
 module _ (n r : ℕ) (e : n ≡ r) where
   pub refusing : (n ≡ 0 → ⊥) → eqb r 0 ≡ false
@@ -30,19 +30,11 @@ module _ {A : Type 0} {n r : ℕ} (was made : A) (e : n ≡ r) where
   pub goes : {x : A} → n ≡ 0 → x ≡ made → x ≡ unlessRefused r was made
   goes z x = x ∙ rw (accepting n r e z)
 
--- the number of a step
-module _ (d : ℕ) where
-  pub zero-step : {n : ℕ} → n ≡ stepRefusal 0 → d ≡ 0 → n ≡ stepRefusal d
-  zero-step e z = rw (eq-eqb d 0 z) e
-
-  pub a-step : (d ≡ 0 → ⊥) → 0 ≡ stepRefusal d
-  a-step z = rw (ne-eqb d 0 z)
-
 -- the number of a frequency in Exact, whatever it is
 pub in-exact : (f : Float) {a : FrequencyApproximation} {n : ℕ} → a ≡ Exact → n ≡ frequencyRefusal f Exact → n ≡ frequencyRefusal f a
 in-exact f e p = rw e p
 
-pub ruleset frequencies = (in-exact, first-of, second-of, needs)
+pub ruleset frequencies = (in-exact, choosing)
 
 -- what `search` is handed at each need of a call that can be refused
 pub ruleset refusals = (zero-is, stays, goes, needs)

@@ -1,7 +1,7 @@
 -- Writing a library. Assumes nothing.
 use Prim.Native.Nat.{ℕ, _+_, _*_, _%_, _/_, _≤_, _<_}
 use mathlib.Core.Path.{_≡_, refl, sym, ap, _∙_}
-use mathlib.Core.Bool.{Bool, true, false, cond}
+use mathlib.Core.Bool.{Bool, true, false}
 use mathlib.Core.List.{List, [], _∷_, map}
 use mathlib.Core.Logic.{_⊎_, inl, inr}
 use native.Mathlib.Omega.{arith}
@@ -12,6 +12,7 @@ use lib.ListN.{length, take, length-append}
 use lib.Seq.{length-take-le}
 use Rattle.lists.specs.Over.{over}
 use Rattle.lists.proofs.Over.{over-append, over-front}
+use Rattle.filter_core.proofs.Choices.{either-way}
 use Rattle.filter_core.proofs.Rows.{below}
 use Rattle.library.specs.Library.{zeroBytes, bytesOf, writeRefusal, writtenLength, writeOf, writtenOf}
 use Rattle.library.specs.declared.Library.{Library}
@@ -46,10 +47,6 @@ put-together l {a} {b} {w} {x} {y} k h p q d e f =
     f ∙ rw (place, head) (over-append 0 (a ∷ b ∷ K) (take (12 * n) (l .settings)) (zeroBytes 834) ∙ rw (p, v) refl)
 
 -- ---- what is written of it
-
-either-way : (b : Bool) (x : ℕ) → cond b x x ≡ x
-either-way true x = refl
-either-way false x = refl
 
 -- more than 64 are refused, whatever the first test is
 pub few : (n room : ℕ) {number : ℕ} → number ≡ writeRefusal n room → number ≡ 0 → n ≤ 64

@@ -111,12 +111,8 @@ pub record Found (s : List ℕ) (e : ℕ) : Type 0 where
   pub size : Sized s
   pub entry : e < entriesOf s
 
-module _ (n e : ℕ) where
-  pub entry-inside : e < n → 0 ≡ entryNumberRefusal n e
-  entry-inside h = rw lt-ltb refl
-
-  pub entry-past : n ≤ e → 5 ≡ entryNumberRefusal n e
-  entry-past h = rw le-ltb refl
+entry-past : (n e : ℕ) → n ≤ e → 5 ≡ entryNumberRefusal n e
+entry-past n e h = rw le-ltb refl
 
 within : {n e : ℕ} → (e < n) ⊎ (n ≤ e) → entryNumberRefusal n e ≡ 0 → e < n
 within (inl h) z = h
@@ -149,8 +145,6 @@ module _ (s : List ℕ) (e : ℕ) {number : ℕ} (p : number ≡ checkEntryOf s 
 
   pub found-entry : {n : ℕ} → number ≡ 0 → n ≡ entriesOf s → e < n
   found-entry {n} z q = let h = found s e (sym p ∙ z) .entry in omega arith
-
-pub ruleset numbers = (entry-inside, entry-past, needs)
 
 pub ruleset steps = (first-start, first-again, first-found, first-none, needs)
 
