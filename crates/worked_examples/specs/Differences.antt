@@ -3,8 +3,8 @@
 use mathlib.Core.Path.{_≡_}
 use mathlib.Core.List.{[], _∷_}
 use lib.Ieee.{Float}
-use Rattle.filter_core.specs.Arithmetic.{_-ᶠ_, word, zeroᶠ, halfᶠ, oneᶠ, twoᶠ, negᶠ}
-use Rattle.filter_core.specs.Buffer.{bufferAfter, each, puts}
+use Rattle.filter_core.specs.Arithmetic.{_+ᶠ_, _-ᶠ_, _*ᶠ_, word, zeroᶠ, halfᶠ, oneᶠ, twoᶠ, negᶠ, πᶠ}
+use Rattle.filter_core.specs.Buffer.{bufferAfter, each, puts, putsDue}
 use Rattle.filter_core.specs.Refusal.{stepRefusal, frequencyRefusal}
 use Rattle.filter_core.specs.declared.FilterMode.the-variants.{LowPass, BandPass}
 use Rattle.filter_core.specs.declared.FrequencyApproximation.the-variants.{Exact, Accurate, Fast, Dirty}
@@ -12,13 +12,22 @@ use Rattle.one_pole.specs.Tangent.{tanOf}
 use Rattle.multimode.specs.Multimode.{highGain, bandGain, lowGain}
 use Rattle.svf.specs.Svf.{svfNext, svfGained}
 use Rattle.naive_svf.specs.Sine.{naiveFrequency}
-use Rattle.naive_svf.specs.NaiveSvf.{naiveHigh}
+use Rattle.naive_svf.specs.NaiveSvf.{naiveNext, naiveOut, naiveHigh}
 use Rattle.naive_svf.specs.declared.NaiveSvf.{NaiveSvf}
 use Rattle.modified_svf.specs.ModifiedSvf.{modifiedReset, modifiedSetFFq, modifiedOut}
 use Rattle.modified_svf.specs.declared.ModifiedSvf.{ModifiedSvf}
 use Rattle.crossover_svf.specs.CrossoverSvf.{crossoverReset, crossoverSetFFq, crossoverOut, zeros}
 use Rattle.crossover_svf.specs.declared.CrossoverSvf.{CrossoverSvf}
-use Rattle.worked_examples.specs.Examples.{kept, quarterᶠ, svf}
+use Rattle.worked_examples.specs.Examples.{kept, quarterᶠ, svf, naive}
+
+-- the tangent at 0.25 by the usual two coefficients, 0.31755 and 0.2033, which the source's comment names beside those of Fast
+abbrev pub usualQuarter : Float
+usualQuarter =
+    let p = πᶠ *ᶠ πᶠ in
+    let a = word 0x3ea2_95ea *ᶠ (p *ᶠ πᶠ) in
+    let b = word 0x3e50_2de0 *ᶠ (p *ᶠ πᶠ *ᶠ p) in
+    let y = quarterᶠ *ᶠ quarterᶠ in
+    quarterᶠ *ᶠ (πᶠ +ᶠ y *ᶠ (a +ᶠ b *ᶠ y))
 
 -- 0.158, where NaiveSvf clips when it is not Exact
 abbrev pub lowClipᶠ : Float
@@ -42,11 +51,12 @@ abbrev pub crossoverAfterOne : CrossoverSvf
 crossoverAfterOne = record { f = halfᶠ; fq = halfᶠ; x = oneᶠ ∷ zeroᶠ ∷ []; lp = zeros; bp = zeros }
 
 pub record Differences : Type 0 where
-  -- the tangent of an eighth turn is 1. By the series 1.0000001; by Accurate, which lacks a coefficient, 0.9975888; by Fast 0.9978163;
-  -- by Dirty 0.9663973
+  -- the tangent of an eighth turn is 1. By the series 1.0000001; by Accurate, which lacks a coefficient, 0.9975888; by Fast 0.9978163,
+  -- where the usual pair has 0.9999983; by Dirty 0.9663973
   pub exact-quarter : tanOf quarterᶠ Exact ≡ word 0x3f80_0001
   pub accurate-quarter : tanOf quarterᶠ Accurate ≡ word 0x3f7f_61fb
   pub fast-quarter : tanOf quarterᶠ Fast ≡ word 0x3f7f_70e4
+  pub usual-quarter : usualQuarter ≡ word 0x3f7f_ffe3
   pub dirty-quarter : tanOf quarterᶠ Dirty ≡ word 0x3f77_65d1
   -- process_add_buffer with gain 2 on a buffer that held 7 leaves 0.5, not 7.5
   pub gain-form-overwrites : bufferAfter (each svfNext) (puts (svfGained LowPass twoᶠ)) 0 svf (oneᶠ ∷ []) (kept ∷ []) ≡ halfᶠ ∷ []
@@ -54,6 +64,9 @@ pub record Differences : Type 0 where
   pub high-at-half : highGain halfᶠ ≡ negᶠ oneᶠ
   pub band-at-half : bandGain halfᶠ ≡ zeroᶠ
   pub low-at-half : lowGain halfᶠ ≡ zeroᶠ
+  -- process_decimate by 2, a call with 1 and one with 0: the second call writes its first place again
+  pub decimate-begins-anew :
+      bufferAfter (each naiveNext) (putsDue 2 (naiveOut LowPass)) 0 (naiveNext naive oneᶠ) (zeroᶠ ∷ []) (kept ∷ []) ≡ quarterᶠ ∷ []
   -- NaiveSvf takes the damped band from the sample first, Chamberlin the low-pass output
   pub naive-order : naiveHigh naiveSmall oneᶠ ≡ word 0x3f7f_ffff
   pub chamberlin-order : oneᶠ -ᶠ smallᶠ -ᶠ tinyᶠ ≡ word 0x3f7f_fffe
