@@ -145,14 +145,14 @@ impl OnePole {
     #[inline]
     pub fn tan(f: f32, approximation: FrequencyApproximation) -> Result<f32, Refusal> {
         let mut value = 0.0;
-        Refusal::of(unsafe { ffi::one_pole_tan(f, approximation as u8, &mut value) })?;
+        Refusal::of(unsafe { ffi::one_pole_tan(f, approximation as u32, &mut value) })?;
         Ok(value)
     }
 
     /// Sets the frequency; the state stays. `Exact` refuses an f below 0.
     #[inline]
     pub fn set_f(&mut self, f: f32, approximation: FrequencyApproximation) -> Result<(), Refusal> {
-        Refusal::of(unsafe { ffi::one_pole_set_f(self.state(), f, approximation as u8) })
+        Refusal::of(unsafe { ffi::one_pole_set_f(self.state(), f, approximation as u32) })
     }
 
     /// One sample. Both band-pass modes answer 0.0 while the state moves on.
@@ -169,7 +169,7 @@ impl OnePole {
     #[inline]
     pub fn process(&mut self, in_: f32, mode: FilterMode) -> f32 {
         let mut out = 0.0;
-        unsafe { ffi::one_pole_process(self.state(), in_, mode as u8, &mut out) };
+        unsafe { ffi::one_pole_process(self.state(), in_, mode as u32, &mut out) };
         out
     }
 }
@@ -247,14 +247,14 @@ impl Svf {
         resonance: f32,
         approximation: FrequencyApproximation,
     ) -> Result<(), Refusal> {
-        Refusal::of(unsafe { ffi::svf_set_f_q(self.state(), f, resonance, approximation as u8) })
+        Refusal::of(unsafe { ffi::svf_set_f_q(self.state(), f, resonance, approximation as u32) })
     }
 
     /// One sample.
     #[inline]
     pub fn process(&mut self, in_: f32, mode: FilterMode) -> f32 {
         let mut out = 0.0;
-        unsafe { ffi::svf_process(self.state(), in_, mode as u8, &mut out) };
+        unsafe { ffi::svf_process(self.state(), in_, mode as u32, &mut out) };
         out
     }
 
@@ -279,7 +279,7 @@ impl Svf {
         mode_2: FilterMode,
     ) {
         unsafe {
-            ffi::svf_process_dual(self.state(), in_, out_1, out_2, mode_1 as u8, mode_2 as u8)
+            ffi::svf_process_dual(self.state(), in_, out_1, out_2, mode_1 as u32, mode_2 as u32)
         };
     }
 
@@ -303,7 +303,7 @@ impl Svf {
                 in_.len(),
                 out.as_mut_ptr(),
                 out.len(),
-                mode as u8,
+                mode as u32,
             )
         };
     }
@@ -335,7 +335,7 @@ impl Svf {
                 out.as_mut_ptr(),
                 out.len(),
                 gain,
-                mode as u8,
+                mode as u32,
             )
         };
     }
@@ -370,12 +370,12 @@ impl Svf {
                 out.as_mut_ptr(),
                 out.len(),
                 stride,
-                mode as u8,
+                mode as u32,
             )
         })
     }
 
-    /// A buffer of samples in a mode between others: low-pass at 0, high-pass at 0.5, band-pass at 1.
+    /// A buffer of samples in a mode between others: low-pass at 0, the high-pass inverted (times -1) at 0.5, band-pass at 1.
     ///
     /// ```
     /// let mut filter = motif_filters::Svf::new();
@@ -430,7 +430,7 @@ impl Svf {
                 out_2.len(),
                 gain_1,
                 gain_2,
-                mode as u8,
+                mode as u32,
             )
         };
     }
@@ -503,7 +503,7 @@ impl NaiveSvf {
         approximation: FrequencyApproximation,
     ) -> Result<(), Refusal> {
         Refusal::of(unsafe {
-            ffi::naive_svf_set_f_q(self.state(), f, resonance, approximation as u8)
+            ffi::naive_svf_set_f_q(self.state(), f, resonance, approximation as u32)
         })
     }
 
@@ -511,7 +511,7 @@ impl NaiveSvf {
     #[inline]
     pub fn process(&mut self, in_: f32, mode: FilterMode) -> f32 {
         let mut out = 0.0;
-        unsafe { ffi::naive_svf_process(self.state(), in_, mode as u8, &mut out) };
+        unsafe { ffi::naive_svf_process(self.state(), in_, mode as u32, &mut out) };
         out
     }
 
@@ -549,7 +549,7 @@ impl NaiveSvf {
                 in_.len(),
                 out.as_mut_ptr(),
                 out.len(),
-                mode as u8,
+                mode as u32,
             )
         };
     }
@@ -611,7 +611,7 @@ impl NaiveSvf {
                 out.as_mut_ptr(),
                 out.len(),
                 decimate,
-                mode as u8,
+                mode as u32,
             )
         })
     }
@@ -674,7 +674,7 @@ impl ModifiedSvf {
                 in_.len(),
                 out.as_mut_ptr(),
                 out.len(),
-                mode as u8,
+                mode as u32,
             )
         };
     }
@@ -756,7 +756,7 @@ impl CrossoverSvf {
                 in_.len(),
                 out.as_mut_ptr(),
                 out.len(),
-                mode as u8,
+                mode as u32,
             )
         };
     }

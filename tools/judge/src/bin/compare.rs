@@ -127,9 +127,14 @@ fn frequency_refusal(f: f32, approximation: oracle::FrequencyApproximation) -> u
     }
 }
 
-// A number that names no mode.
-fn unknown(n: &mut Numbers) -> u8 {
-    4 + n.below(252) as u8
+// A number that names no mode: a byte, one whose low byte would name a mode, what C makes of a negative int, or any.
+fn unknown(n: &mut Numbers) -> u32 {
+    match n.below(4) {
+        0 => 4 + n.below(252) as u32,
+        1 => (1 + n.below(0xFF_FFFF) as u32) << 8 | n.below(4) as u32,
+        2 => u32::MAX - n.below(256) as u32,
+        _ => (n.next() as u32).max(4),
+    }
 }
 
 // Both sides from the same words.
@@ -401,11 +406,11 @@ fn svf(n: &mut Numbers, t: &mut Tally, tame: bool) {
             t.refusal(UNKNOWN, ffi::svf_process(&mut state, 1.0, bad, &mut o1));
             t.refusal(
                 UNKNOWN,
-                ffi::svf_process_dual(&mut state, 1.0, &mut o1, &mut o2, bad, k as u8),
+                ffi::svf_process_dual(&mut state, 1.0, &mut o1, &mut o2, bad, k as u32),
             );
             t.refusal(
                 UNKNOWN,
-                ffi::svf_process_dual(&mut state, 1.0, &mut o1, &mut o2, k as u8, bad),
+                ffi::svf_process_dual(&mut state, 1.0, &mut o1, &mut o2, k as u32, bad),
             );
             t.refusal(
                 UNKNOWN,
