@@ -84,8 +84,12 @@ extern "C" {
     pub fn naive_svf_new(state: *mut [f32; 4]);
     pub fn naive_svf_init(state: *mut [f32; 4]);
     pub fn naive_svf_reset(state: *mut [f32; 4]);
-    pub fn naive_svf_set_f_q(state: *mut [f32; 4], f: f32, resonance: f32, approximation: u32)
-        -> u8;
+    pub fn naive_svf_set_f_q(
+        state: *mut [f32; 4],
+        f: f32,
+        resonance: f32,
+        approximation: u32,
+    ) -> u8;
     pub fn naive_svf_process(state: *mut [f32; 4], in_: f32, mode: u32, out: *mut f32) -> u8;
     pub fn naive_svf_process_buffer(
         state: *mut [f32; 4],

@@ -47,6 +47,7 @@ pub enum FrequencyApproximation {
 macro_rules! fields {
     ($type:ident, $n:literal, $($field:ident),+) => {
         impl $type {
+            #[inline]
             fn state(&mut self) -> *mut [f32; $n] {
                 (self as *mut Self).cast()
             }
@@ -78,6 +79,7 @@ fields!(DcBlocker, 3, pole, x, y);
 
 impl DcBlocker {
     /// All fields 0.
+    #[inline]
     pub fn new() -> Self {
         let mut filter = Self::default();
         unsafe { ffi::dc_blocker_new(filter.state()) };
@@ -85,6 +87,7 @@ impl DcBlocker {
     }
 
     /// Sets the pole and clears the retained samples.
+    #[inline]
     pub fn init(&mut self, pole: f32) {
         unsafe { ffi::dc_blocker_init(self.state(), pole) }
     }
@@ -115,6 +118,7 @@ fields!(OnePole, 3, g, gi, state);
 
 impl OnePole {
     /// All fields 0.
+    #[inline]
     pub fn new() -> Self {
         let mut filter = Self::default();
         unsafe { ffi::one_pole_new(filter.state()) };
@@ -122,11 +126,13 @@ impl OnePole {
     }
 
     /// Frequency 0.01 by `Dirty`, and the state cleared.
+    #[inline]
     pub fn init(&mut self) {
         unsafe { ffi::one_pole_init(self.state()) }
     }
 
     /// Clears the state.
+    #[inline]
     pub fn reset(&mut self) {
         unsafe { ffi::one_pole_reset(self.state()) }
     }
@@ -189,6 +195,7 @@ fields!(Svf, 5, g, r, h, state_1, state_2);
 
 impl Svf {
     /// All fields 0.
+    #[inline]
     pub fn new() -> Self {
         let mut filter = Self::default();
         unsafe { ffi::svf_new(filter.state()) };
@@ -196,11 +203,13 @@ impl Svf {
     }
 
     /// Frequency 0.01 and resonance 100.0 by `Dirty`, and the state cleared.
+    #[inline]
     pub fn init(&mut self) {
         unsafe { ffi::svf_init(self.state()) }
     }
 
     /// Clears the state.
+    #[inline]
     pub fn reset(&mut self) {
         unsafe { ffi::svf_reset(self.state()) }
     }
@@ -279,7 +288,14 @@ impl Svf {
         mode_2: FilterMode,
     ) {
         unsafe {
-            ffi::svf_process_dual(self.state(), in_, out_1, out_2, mode_1 as u32, mode_2 as u32)
+            ffi::svf_process_dual(
+                self.state(),
+                in_,
+                out_1,
+                out_2,
+                mode_1 as u32,
+                mode_2 as u32,
+            )
         };
     }
 
@@ -468,6 +484,7 @@ fields!(NaiveSvf, 4, f, damp, lp, bp);
 
 impl NaiveSvf {
     /// All fields 0.
+    #[inline]
     pub fn new() -> Self {
         let mut filter = Self::default();
         unsafe { ffi::naive_svf_new(filter.state()) };
@@ -475,11 +492,13 @@ impl NaiveSvf {
     }
 
     /// Frequency 0.01 and resonance 100.0 by `Dirty`, and the state cleared.
+    #[inline]
     pub fn init(&mut self) {
         unsafe { ffi::naive_svf_init(self.state()) }
     }
 
     /// Clears the state.
+    #[inline]
     pub fn reset(&mut self) {
         unsafe { ffi::naive_svf_reset(self.state()) }
     }
@@ -632,6 +651,7 @@ fields!(ModifiedSvf, 5, f, fq, x, lp, bp);
 
 impl ModifiedSvf {
     /// All fields 0.
+    #[inline]
     pub fn new() -> Self {
         let mut filter = Self::default();
         unsafe { ffi::modified_svf_new(filter.state()) };
@@ -639,11 +659,13 @@ impl ModifiedSvf {
     }
 
     /// As [`ModifiedSvf::reset`].
+    #[inline]
     pub fn init(&mut self) {
         unsafe { ffi::modified_svf_init(self.state()) }
     }
 
     /// Clears the state, but not the last sample.
+    #[inline]
     pub fn reset(&mut self) {
         unsafe { ffi::modified_svf_reset(self.state()) }
     }
@@ -692,6 +714,7 @@ pub struct CrossoverSvf {
 }
 
 impl CrossoverSvf {
+    #[inline]
     fn state(&mut self) -> *mut [f32; 8] {
         (self as *mut Self).cast()
     }
@@ -714,6 +737,7 @@ impl CrossoverSvf {
     }
 
     /// All fields 0.
+    #[inline]
     pub fn new() -> Self {
         let mut filter = Self::default();
         unsafe { ffi::crossover_svf_new(filter.state()) };
@@ -721,11 +745,13 @@ impl CrossoverSvf {
     }
 
     /// As [`CrossoverSvf::reset`].
+    #[inline]
     pub fn init(&mut self) {
         unsafe { ffi::crossover_svf_init(self.state()) }
     }
 
     /// Clears the state and the last samples.
+    #[inline]
     pub fn reset(&mut self) {
         unsafe { ffi::crossover_svf_reset(self.state()) }
     }

@@ -140,7 +140,10 @@ fn unknown(n: &mut Numbers) -> u32 {
 // Both sides from the same words.
 macro_rules! pair {
     ($type:ident, $w:expr) => {
-        (oracle::$type::from_fields($w), proved::$type::from_fields($w))
+        (
+            oracle::$type::from_fields($w),
+            proved::$type::from_fields($w),
+        )
     };
 }
 
@@ -619,6 +622,50 @@ macro_rules! chamberlin {
 chamberlin!(modified, ModifiedSvf, 5, ffi::modified_svf_process);
 chamberlin!(crossover, CrossoverSvf, 8, ffi::crossover_svf_process);
 
+// Code that is written for filter.rs, on the source's types and on ours.
+mod on_source {
+    use judge::oracle::*;
+    include!("../../../../bindings/rust/tests/user/filters_in_use.rs");
+}
+
+mod on_ours {
+    use judge::proved::filter::*;
+    include!("../../../../bindings/rust/tests/user/filters_in_use.rs");
+}
+
+fn user(n: &mut Numbers, t: &mut Tally, tame: bool) {
+    let length = n.below(33) as usize;
+    let input = n.buffer(length, tame);
+    let (f, resonance, step) = if tame {
+        (n.frequency(), 1.0 + n.frequency(), n.step(length))
+    } else {
+        (n.any().abs(), n.any(), n.step(length))
+    };
+    for (p, q) in APPROXIMATIONS {
+        t.at(
+            "a user's code",
+            format!("{input:?} {f:?} {resonance:?} {step} {p:?}"),
+        );
+        t.words(
+            "the answer",
+            &on_source::answers(&input, f, resonance, step, p),
+            &on_ours::answers(&input, f, resonance, step, q),
+        );
+    }
+}
+
+// The source's signatures and text, on both sides.
+fn signatures(t: &mut Tally) {
+    on_source::signatures();
+    on_ours::signatures();
+    t.at("a user's code", String::new());
+    let (a, b) = (on_source::shown(), on_ours::shown());
+    if a != b {
+        t.fail("its Debug text", a, b);
+    }
+    t.count(1);
+}
+
 fn random(seed: u64, rounds: u64) {
     let start = Instant::now();
     let mut n = Numbers(seed);
@@ -628,6 +675,7 @@ fn random(seed: u64, rounds: u64) {
         what: String::new(),
     };
     news(&mut t);
+    signatures(&mut t);
     for round in 0..rounds {
         let tame = round % 2 == 0;
         dc_blocker(&mut n, &mut t, tame);
@@ -636,6 +684,7 @@ fn random(seed: u64, rounds: u64) {
         naive(&mut n, &mut t, tame);
         modified(&mut n, &mut t, tame);
         crossover(&mut n, &mut t, tame);
+        user(&mut n, &mut t, tame);
     }
     for (method, count) in &t.counts {
         println!("{method:32} {count:>10}");
