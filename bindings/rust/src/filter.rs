@@ -104,14 +104,14 @@ macro_rules! method {
 
 macro_rules! forward {
     ($type:ident $name:ident ($($parameters:tt)*) [$($answer:ty)?] $call:expr) => {
-        #[doc = concat!("As [`", stringify!($type), "::", stringify!($name), "`](crate::", stringify!($type), "::", stringify!($name), ").")]
+        #[doc = concat!("As [`crate::", stringify!($type), "::", stringify!($name), "`].")]
         #[inline]
         pub fn $name($($parameters)*) $(-> $answer)? {
             $call
         }
     };
     ($type:ident $name:ident ($($parameters:tt)*) [$($answer:ty)?] $call:expr, panics) => {
-        #[doc = concat!("As [`", stringify!($type), "::", stringify!($name), "`](crate::", stringify!($type), "::", stringify!($name), "); panics where that is refused.")]
+        #[doc = concat!("As [`crate::", stringify!($type), "::", stringify!($name), "`]; panics where that is refused.")]
         #[inline]
         #[track_caller]
         pub fn $name($($parameters)*) $(-> $answer)? {

@@ -14,6 +14,7 @@ pub type Set<T> = fn(&mut T);
 pub type Get<T> = fn(&T) -> f32;
 
 /// Every method of the six filters at the source's type: that this compiles is the test.
+#[allow(clippy::type_complexity)]
 pub fn signatures() {
     let _: (fn() -> DcBlocker, fn(&mut DcBlocker, f32)) = (DcBlocker::new, DcBlocker::init);
     let _: fn(&mut DcBlocker, &mut [f32]) = DcBlocker::process;
