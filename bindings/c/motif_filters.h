@@ -1,6 +1,6 @@
 /*
- * The six filters of filter.rs, proved in Rattle, for C on x86-64. Link target/staticlib/libfilter_exports.a, which
- * `rt staticlib filter_exports` proves and writes.
+ * The six filters of filter.rs, proved in Rattle, for C on x86-64 with the System V ABI, as on Linux. Link
+ * target/staticlib/libfilter_exports.a, which `rt staticlib filter_exports` proves and writes.
  *
  * A filter is an array of floats, its fields, in the order that its group below names. `_new` writes a fresh one. Every call reads and
  * writes the arrays that it is lent and keeps nothing else.
@@ -8,18 +8,18 @@
  * A call that can be refused answers MOTIF_OK or the refusal's number. A refused call changes nothing: neither the filter nor an output.
  * A buffer form works over the shortest of its lengths; later places keep their contents.
  *
- * What the proofs take for granted, and no call can check:
- * - No pointer is NULL, also where the call is refused. The one exception is a buffer whose own length is 0: it is never read or written,
- *   so its pointer may be NULL.
- * - Every pointer is aligned for a float, and `state` and a buffer have as many places as their declaration or their length says.
+ * What the proofs take for granted, and no call checks:
+ * - A pointer leads to memory that is there: none is NULL, not even where the call is refused. The one exception is a buffer whose own
+ *   length is 0. By the proofs nothing outside its length is read or written, so its pointer is never used and may be NULL.
+ * - Every pointer is aligned for a float. `state` has as many places as its declaration says, a buffer as many as its length.
  * - `state` is lent as a buffer is: no two of the arrays and outputs that one call is lent overlap. So no form but dc_blocker_process works
- *   in place, and not even svf_set may name one array twice.
- * - Every place that is lent holds a float. An output, and the array of a `_new`, is only written, so it may be uninitialized.
- * - The processor rounds to nearest and keeps subnormal numbers, as a program starts. With other flags set (flush-to-zero, say) a call is
- *   as safe, but the numbers are other ones.
+ *   in place, and svf_set does not take one array twice.
+ * - Every place holds a float. An output and the array of a `_new` are only written, so they may be uninitialized.
+ * - The floating-point flags are as a program starts: rounding to nearest, subnormal numbers kept. With others, as flush-to-zero, the
+ *   numbers are not the proved ones.
  *
- * A mode or an approximation is a uint32_t, and a number above 3 is refused with MOTIF_UNKNOWN. So are 256 and -1 as an int, which a
- * narrower type would have cut. C cuts what is wider than 32 bits before the call.
+ * A mode or an approximation is a uint32_t, and a number above 3 is refused with MOTIF_UNKNOWN. So are 256 and -1 as an int, which
+ * arrive whole. What is wider than 32 bits C cuts before the call.
  */
 #ifndef MOTIF_FILTERS_H
 #define MOTIF_FILTERS_H
@@ -28,7 +28,7 @@
 #include <stdint.h>
 
 #if !defined(__x86_64__) || defined(__ILP32__) || defined(_WIN32)
-#error "the archive is for x86-64 and the calls of its System V ABI"
+#error "the archive is for x86-64 with the System V ABI"
 #endif
 
 #ifdef __cplusplus

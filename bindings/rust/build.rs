@@ -1,9 +1,20 @@
 //! Has tools/archive prove the filters and write their archive, and has cargo link it.
 
-use std::fs::{self, OpenOptions};
-use std::io::{BufRead, BufReader, Write};
+use std::fs::{self, File, OpenOptions};
+use std::io::{BufRead, BufReader, IsTerminal, Write};
+use std::os::unix::process::parent_id;
 use std::path::PathBuf;
 use std::process::{Command, Stdio};
+
+// cargo keeps what a build script writes to itself until the script ends, and a proof takes minutes. So the script writes where cargo
+// writes; but not to a file, where each of the two would write over the other.
+fn cargos_standard_error() -> Option<File> {
+    let path = format!("/proc/{}/fd/2", parent_id());
+    if fs::metadata(&path).ok()?.is_file() {
+        return None;
+    }
+    OpenOptions::new().write(true).open(path).ok()
+}
 
 fn main() {
     let here = PathBuf::from(std::env::var("CARGO_MANIFEST_DIR").unwrap());
@@ -13,22 +24,23 @@ fn main() {
         .stderr(Stdio::piped())
         .spawn()
         .expect("tools/archive of the repository");
-    // A proof takes a while, and cargo shows nothing of a build script before it ends: so what tools/archive says goes to the terminal as it
-    // comes. Where there is none, cargo has the last line for a warning, which it repeats at later builds.
-    let mut terminal = OpenOptions::new().write(true).open("/dev/tty").ok();
+    // What tools/archive says is shown as it comes; where that is not possible, cargo has the last line for a warning, which it repeats at
+    // later builds.
+    let mut shown = cargos_standard_error();
     let mut last = None;
     for line in BufReader::new(archive.stderr.take().unwrap()).lines() {
         let line = line.expect("a line of tools/archive");
-        if let Some(terminal) = &mut terminal {
-            // cargo's progress bar may stand in the line: it is cleared first.
-            let _ = writeln!(terminal, "\r\x1b[K{line}");
+        if let Some(shown) = &mut shown {
+            // On a terminal cargo's progress bar may stand in the line, and goes.
+            let clear = if shown.is_terminal() { "\r\x1b[K" } else { "" };
+            let _ = writeln!(shown, "{clear}{line}");
         }
         eprintln!("{line}");
         last = Some(line);
     }
     let done = archive.wait_with_output().expect("tools/archive's answer");
     assert!(done.status.success(), "tools/archive failed");
-    if let (None, Some(line)) = (terminal, last) {
+    if let (None, Some(line)) = (shown, last) {
         println!("cargo:warning={line}");
     }
     for path in String::from_utf8_lossy(&done.stdout).lines() {

@@ -72,16 +72,20 @@ pub const CALLS: Calls = Calls {
 
 /// What filters of one sample have in common.
 pub trait Voice: Default + Clone + std::fmt::Debug {
-    fn fresh() -> Self;
+    fn start(&mut self);
     fn tune(&mut self, f: f32, resonance: f32, approximation: FrequencyApproximation);
     fn tick(&mut self, x: f32, mode: FilterMode) -> f32;
+
+    fn started() -> Self {
+        let mut voice = Self::default();
+        voice.start();
+        voice
+    }
 }
 
 impl Voice for OnePole {
-    fn fresh() -> Self {
-        let mut filter = Self::new();
-        filter.init();
-        filter
+    fn start(&mut self) {
+        self.init()
     }
 
     fn tune(&mut self, f: f32, _: f32, approximation: FrequencyApproximation) {
@@ -93,37 +97,25 @@ impl Voice for OnePole {
     }
 }
 
-impl Voice for Svf {
-    fn fresh() -> Self {
-        let mut filter = Self::new();
-        filter.init();
-        filter
-    }
+macro_rules! voices {
+    ($($type:ident),+) => {
+        $(impl Voice for $type {
+            fn start(&mut self) {
+                self.init()
+            }
 
-    fn tune(&mut self, f: f32, resonance: f32, approximation: FrequencyApproximation) {
-        self.set_f_q(f, resonance, approximation)
-    }
+            fn tune(&mut self, f: f32, resonance: f32, approximation: FrequencyApproximation) {
+                self.set_f_q(f, resonance, approximation)
+            }
 
-    fn tick(&mut self, x: f32, mode: FilterMode) -> f32 {
-        self.process(x, mode)
-    }
+            fn tick(&mut self, x: f32, mode: FilterMode) -> f32 {
+                self.process(x, mode)
+            }
+        })+
+    };
 }
 
-impl Voice for NaiveSvf {
-    fn fresh() -> Self {
-        let mut filter = Self::new();
-        filter.init();
-        filter
-    }
-
-    fn tune(&mut self, f: f32, resonance: f32, approximation: FrequencyApproximation) {
-        self.set_f_q(f, resonance, approximation)
-    }
-
-    fn tick(&mut self, x: f32, mode: FilterMode) -> f32 {
-        self.process(x, mode)
-    }
-}
+voices!(Svf, NaiveSvf);
 
 /// Over any filter of one sample.
 pub fn sing<V: Voice>(voice: &mut V, input: &[f32], mode: FilterMode) -> Vec<f32> {
@@ -256,7 +248,7 @@ pub fn answers(
     channel.tone.set(&tone);
     channel.clear();
     all.extend([channel.tone.g(), channel.tone.r(), channel.tone.h()]);
-    let mut voice = Svf::fresh();
+    let mut voice = Svf::started();
     voice.tune(f, resonance, approximation);
     all.extend(each(&mut voice, input, |s, x| Svf::tick(s, x, FilterMode::BandPass)));
     all
