@@ -1,8 +1,10 @@
 /* Worked examples of document 01 from C, and the refusals. Ends with 1 at the first that is not as it must be. */
 #include "motif_filters.h"
 
+#include <limits.h>
 #include <stdio.h>
 #include <stdlib.h>
+#include <string.h>
 
 static int checks;
 
@@ -12,6 +14,62 @@ static void check(const char *what, int holds) {
         exit(1);
     }
     checks++;
+}
+
+/* Every call that takes a mode or an approximation, with one number for it, as an int. */
+static void refuses(int n) {
+    const float in[2] = {1, 9}, three[3] = {0.5f, 0.25f, 2}, four[4] = {0.5f, 1, 2, 3}, five[5] = {1, 1, 0.25f, 3, 4};
+    const float eight[8] = {0.5f, 0.5f, 1, 2, 3, 4, 5, 6};
+    float one_pole[3], svf[5], naive[4], modified[5], crossover[8], out[2] = {7, 7}, other[2] = {8, 8};
+    memcpy(one_pole, three, sizeof three);
+    memcpy(svf, five, sizeof five);
+    memcpy(naive, four, sizeof four);
+    memcpy(modified, five, sizeof five);
+    memcpy(crossover, eight, sizeof eight);
+
+    check("one_pole_tan", one_pole_tan(0.1f, n, out) == MOTIF_UNKNOWN);
+    check("one_pole_set_f", one_pole_set_f(one_pole, 0.1f, n) == MOTIF_UNKNOWN);
+    check("one_pole_process", one_pole_process(one_pole, 1, n, out) == MOTIF_UNKNOWN);
+    check("svf_set_f_q", svf_set_f_q(svf, 0.1f, 1, n) == MOTIF_UNKNOWN);
+    check("svf_process", svf_process(svf, 1, n, out) == MOTIF_UNKNOWN);
+    check("svf_process_dual, first", svf_process_dual(svf, 1, out, other, n, MOTIF_LOW_PASS) == MOTIF_UNKNOWN);
+    check("svf_process_dual, second", svf_process_dual(svf, 1, out, other, MOTIF_LOW_PASS, n) == MOTIF_UNKNOWN);
+    check("svf_process_buffer", svf_process_buffer(svf, in, 2, out, 2, n) == MOTIF_UNKNOWN);
+    check("svf_process_add_buffer", svf_process_add_buffer(svf, in, 2, out, 2, 1, n) == MOTIF_UNKNOWN);
+    check("svf_process_stride_buffer", svf_process_stride_buffer(svf, in, 2, out, 2, 1, n) == MOTIF_UNKNOWN);
+    check("svf_process_add_dual_buffer", svf_process_add_dual_buffer(svf, in, 2, out, 2, other, 2, 1, 1, n) == MOTIF_UNKNOWN);
+    check("naive_svf_set_f_q", naive_svf_set_f_q(naive, 0.1f, 1, n) == MOTIF_UNKNOWN);
+    check("naive_svf_process", naive_svf_process(naive, 1, n, out) == MOTIF_UNKNOWN);
+    check("naive_svf_process_buffer", naive_svf_process_buffer(naive, in, 2, out, 2, n) == MOTIF_UNKNOWN);
+    check("naive_svf_process_decimate", naive_svf_process_decimate(naive, in, 2, out, 2, 1, n) == MOTIF_UNKNOWN);
+    check("modified_svf_process", modified_svf_process(modified, in, 2, out, 2, n) == MOTIF_UNKNOWN);
+    check("crossover_svf_process", crossover_svf_process(crossover, in, 2, out, 2, n) == MOTIF_UNKNOWN);
+
+    check("all outputs as they were", out[0] == 7 && out[1] == 7 && other[0] == 8 && other[1] == 8);
+    check("OnePole as it was", memcmp(one_pole, three, sizeof three) == 0);
+    check("Svf as it was", memcmp(svf, five, sizeof five) == 0);
+    check("NaiveSvf as it was", memcmp(naive, four, sizeof four) == 0);
+    check("ModifiedSvf as it was", memcmp(modified, five, sizeof five) == 0);
+    check("CrossoverSvf as it was", memcmp(crossover, eight, sizeof eight) == 0);
+}
+
+/* A buffer of length 0 may be NULL: the filter stays as it was. */
+static void takes_no_buffer(void) {
+    const float eight[8] = {0.5f, 0.5f, 0.25f, 3, 4, 5, 6, 7};
+    float state[8];
+    memcpy(state, eight, sizeof eight);
+    dc_blocker_process(state, NULL, 0);
+    check("svf_process_buffer, NULL", svf_process_buffer(state, NULL, 0, NULL, 0, MOTIF_LOW_PASS) == MOTIF_OK);
+    check("svf_process_add_buffer, NULL", svf_process_add_buffer(state, NULL, 0, NULL, 0, 1, MOTIF_LOW_PASS) == MOTIF_OK);
+    check("svf_process_stride_buffer, NULL", svf_process_stride_buffer(state, NULL, 0, NULL, 0, 1, MOTIF_LOW_PASS) == MOTIF_OK);
+    svf_process_multimode_buffer(state, NULL, 0, NULL, 0, 0.5f);
+    check("svf_process_add_dual_buffer, NULL", svf_process_add_dual_buffer(state, NULL, 0, NULL, 0, NULL, 0, 1, 1, MOTIF_LOW_PASS) == MOTIF_OK);
+    check("naive_svf_process_buffer, NULL", naive_svf_process_buffer(state, NULL, 0, NULL, 0, MOTIF_LOW_PASS) == MOTIF_OK);
+    naive_svf_split(state, NULL, 0, NULL, 0, NULL, 0);
+    check("naive_svf_process_decimate, NULL", naive_svf_process_decimate(state, NULL, 0, NULL, 0, 1, MOTIF_LOW_PASS) == MOTIF_OK);
+    check("modified_svf_process, NULL", modified_svf_process(state, NULL, 0, NULL, 0, MOTIF_LOW_PASS) == MOTIF_OK);
+    check("crossover_svf_process, NULL", crossover_svf_process(state, NULL, 0, NULL, 0, MOTIF_LOW_PASS) == MOTIF_OK);
+    check("all fields as they were", memcmp(state, eight, sizeof eight) == 0);
 }
 
 int main(void) {
@@ -37,12 +95,20 @@ int main(void) {
 
     /* refused calls change nothing */
     check("stride 0", svf_process_stride_buffer(svf, impulse, 3, out, 3, 0, MOTIF_LOW_PASS) == MOTIF_STEP);
-    check("mode 4", svf_process_buffer(svf, impulse, 3, out, 3, 4) == MOTIF_UNKNOWN);
     check("f below 0", svf_set_f_q(svf, -0.1f, 1, MOTIF_EXACT) == MOTIF_FREQUENCY);
     check("all as it was", out[0] == 0.25f && out[1] == 7 && out[2] == 0.625f && svf_g(svf) == 1 && svf_h(svf) == 0.25f);
+    const int unknown[] = {4, 255, 256, 259, 65536, INT_MAX, -1, -256, INT_MIN};
+    for (size_t k = 0; k < sizeof unknown / sizeof unknown[0]; k++) refuses(unknown[k]);
+    takes_no_buffer();
+
+    /* S5: the high-pass of multimode is inverted */
+    float one[1];
+    svf_reset(svf);
+    svf_process_multimode_buffer(svf, impulse, 1, one, 1, 0.5f);
+    check("S5, inverted", one[0] == -0.25f);
 
     /* S9: a crossover */
-    float crossover[8], one[1];
+    float crossover[8];
     crossover_svf_new(crossover);
     crossover_svf_set_f_fq(crossover, 0.5f, 0.5f);
     check("S9", crossover_svf_process(crossover, impulse, 1, one, 1, MOTIF_HIGH_PASS) == MOTIF_OK && one[0] == 0.25f);

@@ -2,7 +2,7 @@
 //! lent to nothing else that is written; a slice is a pointer and a length. The functions keep no pointer.
 
 extern "C" {
-    pub fn one_pole_tan(f: f32, approximation: u8, value: *mut f32) -> u8;
+    pub fn one_pole_tan(f: f32, approximation: u32, value: *mut f32) -> u8;
 
     pub fn dc_blocker_new(state: *mut [f32; 3]);
     pub fn dc_blocker_init(state: *mut [f32; 3], pole: f32);
@@ -11,8 +11,8 @@ extern "C" {
     pub fn one_pole_new(state: *mut [f32; 3]);
     pub fn one_pole_init(state: *mut [f32; 3]);
     pub fn one_pole_reset(state: *mut [f32; 3]);
-    pub fn one_pole_set_f(state: *mut [f32; 3], f: f32, approximation: u8) -> u8;
-    pub fn one_pole_process(state: *mut [f32; 3], in_: f32, mode: u8, out: *mut f32) -> u8;
+    pub fn one_pole_set_f(state: *mut [f32; 3], f: f32, approximation: u32) -> u8;
+    pub fn one_pole_process(state: *mut [f32; 3], in_: f32, mode: u32, out: *mut f32) -> u8;
 
     pub fn svf_new(state: *mut [f32; 5]);
     pub fn svf_init(state: *mut [f32; 5]);
@@ -21,15 +21,15 @@ extern "C" {
     pub fn svf_set_g_r_h(state: *mut [f32; 5], g: f32, r: f32, h: f32);
     pub fn svf_set_g_r(state: *mut [f32; 5], g: f32, r: f32);
     pub fn svf_set_g_q(state: *mut [f32; 5], g: f32, resonance: f32);
-    pub fn svf_set_f_q(state: *mut [f32; 5], f: f32, resonance: f32, approximation: u8) -> u8;
-    pub fn svf_process(state: *mut [f32; 5], in_: f32, mode: u8, out: *mut f32) -> u8;
+    pub fn svf_set_f_q(state: *mut [f32; 5], f: f32, resonance: f32, approximation: u32) -> u8;
+    pub fn svf_process(state: *mut [f32; 5], in_: f32, mode: u32, out: *mut f32) -> u8;
     pub fn svf_process_dual(
         state: *mut [f32; 5],
         in_: f32,
         out_1: *mut f32,
         out_2: *mut f32,
-        mode_1: u8,
-        mode_2: u8,
+        mode_1: u32,
+        mode_2: u32,
     ) -> u8;
     pub fn svf_process_buffer(
         state: *mut [f32; 5],
@@ -37,7 +37,7 @@ extern "C" {
         in_len: usize,
         out: *mut f32,
         out_len: usize,
-        mode: u8,
+        mode: u32,
     ) -> u8;
     pub fn svf_process_add_buffer(
         state: *mut [f32; 5],
@@ -46,7 +46,7 @@ extern "C" {
         out: *mut f32,
         out_len: usize,
         gain: f32,
-        mode: u8,
+        mode: u32,
     ) -> u8;
     pub fn svf_process_stride_buffer(
         state: *mut [f32; 5],
@@ -55,7 +55,7 @@ extern "C" {
         out: *mut f32,
         out_len: usize,
         stride: usize,
-        mode: u8,
+        mode: u32,
     ) -> u8;
     pub fn svf_process_multimode_buffer(
         state: *mut [f32; 5],
@@ -75,7 +75,7 @@ extern "C" {
         out_2_len: usize,
         gain_1: f32,
         gain_2: f32,
-        mode: u8,
+        mode: u32,
     ) -> u8;
     pub fn svf_g(state: *const [f32; 5]) -> f32;
     pub fn svf_r(state: *const [f32; 5]) -> f32;
@@ -84,16 +84,20 @@ extern "C" {
     pub fn naive_svf_new(state: *mut [f32; 4]);
     pub fn naive_svf_init(state: *mut [f32; 4]);
     pub fn naive_svf_reset(state: *mut [f32; 4]);
-    pub fn naive_svf_set_f_q(state: *mut [f32; 4], f: f32, resonance: f32, approximation: u8)
-        -> u8;
-    pub fn naive_svf_process(state: *mut [f32; 4], in_: f32, mode: u8, out: *mut f32) -> u8;
+    pub fn naive_svf_set_f_q(
+        state: *mut [f32; 4],
+        f: f32,
+        resonance: f32,
+        approximation: u32,
+    ) -> u8;
+    pub fn naive_svf_process(state: *mut [f32; 4], in_: f32, mode: u32, out: *mut f32) -> u8;
     pub fn naive_svf_process_buffer(
         state: *mut [f32; 4],
         in_: *const f32,
         in_len: usize,
         out: *mut f32,
         out_len: usize,
-        mode: u8,
+        mode: u32,
     ) -> u8;
     pub fn naive_svf_split(
         state: *mut [f32; 4],
@@ -111,7 +115,7 @@ extern "C" {
         out: *mut f32,
         out_len: usize,
         decimate: usize,
-        mode: u8,
+        mode: u32,
     ) -> u8;
     pub fn naive_svf_lp(state: *const [f32; 4]) -> f32;
     pub fn naive_svf_bp(state: *const [f32; 4]) -> f32;
@@ -126,7 +130,7 @@ extern "C" {
         in_len: usize,
         out: *mut f32,
         out_len: usize,
-        mode: u8,
+        mode: u32,
     ) -> u8;
 
     pub fn crossover_svf_new(state: *mut [f32; 8]);
@@ -139,6 +143,6 @@ extern "C" {
         in_len: usize,
         out: *mut f32,
         out_len: usize,
-        mode: u8,
+        mode: u32,
     ) -> u8;
 }

@@ -47,6 +47,7 @@ pub enum FrequencyApproximation {
 macro_rules! fields {
     ($type:ident, $n:literal, $($field:ident),+) => {
         impl $type {
+            #[inline]
             fn state(&mut self) -> *mut [f32; $n] {
                 (self as *mut Self).cast()
             }
@@ -78,6 +79,7 @@ fields!(DcBlocker, 3, pole, x, y);
 
 impl DcBlocker {
     /// All fields 0.
+    #[inline]
     pub fn new() -> Self {
         let mut filter = Self::default();
         unsafe { ffi::dc_blocker_new(filter.state()) };
@@ -85,6 +87,7 @@ impl DcBlocker {
     }
 
     /// Sets the pole and clears the retained samples.
+    #[inline]
     pub fn init(&mut self, pole: f32) {
         unsafe { ffi::dc_blocker_init(self.state(), pole) }
     }
@@ -115,6 +118,7 @@ fields!(OnePole, 3, g, gi, state);
 
 impl OnePole {
     /// All fields 0.
+    #[inline]
     pub fn new() -> Self {
         let mut filter = Self::default();
         unsafe { ffi::one_pole_new(filter.state()) };
@@ -122,11 +126,13 @@ impl OnePole {
     }
 
     /// Frequency 0.01 by `Dirty`, and the state cleared.
+    #[inline]
     pub fn init(&mut self) {
         unsafe { ffi::one_pole_init(self.state()) }
     }
 
     /// Clears the state.
+    #[inline]
     pub fn reset(&mut self) {
         unsafe { ffi::one_pole_reset(self.state()) }
     }
@@ -145,14 +151,14 @@ impl OnePole {
     #[inline]
     pub fn tan(f: f32, approximation: FrequencyApproximation) -> Result<f32, Refusal> {
         let mut value = 0.0;
-        Refusal::of(unsafe { ffi::one_pole_tan(f, approximation as u8, &mut value) })?;
+        Refusal::of(unsafe { ffi::one_pole_tan(f, approximation as u32, &mut value) })?;
         Ok(value)
     }
 
     /// Sets the frequency; the state stays. `Exact` refuses an f below 0.
     #[inline]
     pub fn set_f(&mut self, f: f32, approximation: FrequencyApproximation) -> Result<(), Refusal> {
-        Refusal::of(unsafe { ffi::one_pole_set_f(self.state(), f, approximation as u8) })
+        Refusal::of(unsafe { ffi::one_pole_set_f(self.state(), f, approximation as u32) })
     }
 
     /// One sample. Both band-pass modes answer 0.0 while the state moves on.
@@ -169,7 +175,7 @@ impl OnePole {
     #[inline]
     pub fn process(&mut self, in_: f32, mode: FilterMode) -> f32 {
         let mut out = 0.0;
-        unsafe { ffi::one_pole_process(self.state(), in_, mode as u8, &mut out) };
+        unsafe { ffi::one_pole_process(self.state(), in_, mode as u32, &mut out) };
         out
     }
 }
@@ -189,6 +195,7 @@ fields!(Svf, 5, g, r, h, state_1, state_2);
 
 impl Svf {
     /// All fields 0.
+    #[inline]
     pub fn new() -> Self {
         let mut filter = Self::default();
         unsafe { ffi::svf_new(filter.state()) };
@@ -196,11 +203,13 @@ impl Svf {
     }
 
     /// Frequency 0.01 and resonance 100.0 by `Dirty`, and the state cleared.
+    #[inline]
     pub fn init(&mut self) {
         unsafe { ffi::svf_init(self.state()) }
     }
 
     /// Clears the state.
+    #[inline]
     pub fn reset(&mut self) {
         unsafe { ffi::svf_reset(self.state()) }
     }
@@ -247,14 +256,14 @@ impl Svf {
         resonance: f32,
         approximation: FrequencyApproximation,
     ) -> Result<(), Refusal> {
-        Refusal::of(unsafe { ffi::svf_set_f_q(self.state(), f, resonance, approximation as u8) })
+        Refusal::of(unsafe { ffi::svf_set_f_q(self.state(), f, resonance, approximation as u32) })
     }
 
     /// One sample.
     #[inline]
     pub fn process(&mut self, in_: f32, mode: FilterMode) -> f32 {
         let mut out = 0.0;
-        unsafe { ffi::svf_process(self.state(), in_, mode as u8, &mut out) };
+        unsafe { ffi::svf_process(self.state(), in_, mode as u32, &mut out) };
         out
     }
 
@@ -279,7 +288,14 @@ impl Svf {
         mode_2: FilterMode,
     ) {
         unsafe {
-            ffi::svf_process_dual(self.state(), in_, out_1, out_2, mode_1 as u8, mode_2 as u8)
+            ffi::svf_process_dual(
+                self.state(),
+                in_,
+                out_1,
+                out_2,
+                mode_1 as u32,
+                mode_2 as u32,
+            )
         };
     }
 
@@ -303,7 +319,7 @@ impl Svf {
                 in_.len(),
                 out.as_mut_ptr(),
                 out.len(),
-                mode as u8,
+                mode as u32,
             )
         };
     }
@@ -335,7 +351,7 @@ impl Svf {
                 out.as_mut_ptr(),
                 out.len(),
                 gain,
-                mode as u8,
+                mode as u32,
             )
         };
     }
@@ -370,12 +386,12 @@ impl Svf {
                 out.as_mut_ptr(),
                 out.len(),
                 stride,
-                mode as u8,
+                mode as u32,
             )
         })
     }
 
-    /// A buffer of samples in a mode between others: low-pass at 0, high-pass at 0.5, band-pass at 1.
+    /// A buffer of samples in a mode between others: low-pass at 0, the high-pass inverted (times -1) at 0.5, band-pass at 1.
     ///
     /// ```
     /// let mut filter = motif_filters::Svf::new();
@@ -430,7 +446,7 @@ impl Svf {
                 out_2.len(),
                 gain_1,
                 gain_2,
-                mode as u8,
+                mode as u32,
             )
         };
     }
@@ -468,6 +484,7 @@ fields!(NaiveSvf, 4, f, damp, lp, bp);
 
 impl NaiveSvf {
     /// All fields 0.
+    #[inline]
     pub fn new() -> Self {
         let mut filter = Self::default();
         unsafe { ffi::naive_svf_new(filter.state()) };
@@ -475,11 +492,13 @@ impl NaiveSvf {
     }
 
     /// Frequency 0.01 and resonance 100.0 by `Dirty`, and the state cleared.
+    #[inline]
     pub fn init(&mut self) {
         unsafe { ffi::naive_svf_init(self.state()) }
     }
 
     /// Clears the state.
+    #[inline]
     pub fn reset(&mut self) {
         unsafe { ffi::naive_svf_reset(self.state()) }
     }
@@ -503,7 +522,7 @@ impl NaiveSvf {
         approximation: FrequencyApproximation,
     ) -> Result<(), Refusal> {
         Refusal::of(unsafe {
-            ffi::naive_svf_set_f_q(self.state(), f, resonance, approximation as u8)
+            ffi::naive_svf_set_f_q(self.state(), f, resonance, approximation as u32)
         })
     }
 
@@ -511,7 +530,7 @@ impl NaiveSvf {
     #[inline]
     pub fn process(&mut self, in_: f32, mode: FilterMode) -> f32 {
         let mut out = 0.0;
-        unsafe { ffi::naive_svf_process(self.state(), in_, mode as u8, &mut out) };
+        unsafe { ffi::naive_svf_process(self.state(), in_, mode as u32, &mut out) };
         out
     }
 
@@ -549,7 +568,7 @@ impl NaiveSvf {
                 in_.len(),
                 out.as_mut_ptr(),
                 out.len(),
-                mode as u8,
+                mode as u32,
             )
         };
     }
@@ -611,7 +630,7 @@ impl NaiveSvf {
                 out.as_mut_ptr(),
                 out.len(),
                 decimate,
-                mode as u8,
+                mode as u32,
             )
         })
     }
@@ -632,6 +651,7 @@ fields!(ModifiedSvf, 5, f, fq, x, lp, bp);
 
 impl ModifiedSvf {
     /// All fields 0.
+    #[inline]
     pub fn new() -> Self {
         let mut filter = Self::default();
         unsafe { ffi::modified_svf_new(filter.state()) };
@@ -639,11 +659,13 @@ impl ModifiedSvf {
     }
 
     /// As [`ModifiedSvf::reset`].
+    #[inline]
     pub fn init(&mut self) {
         unsafe { ffi::modified_svf_init(self.state()) }
     }
 
     /// Clears the state, but not the last sample.
+    #[inline]
     pub fn reset(&mut self) {
         unsafe { ffi::modified_svf_reset(self.state()) }
     }
@@ -674,7 +696,7 @@ impl ModifiedSvf {
                 in_.len(),
                 out.as_mut_ptr(),
                 out.len(),
-                mode as u8,
+                mode as u32,
             )
         };
     }
@@ -692,6 +714,7 @@ pub struct CrossoverSvf {
 }
 
 impl CrossoverSvf {
+    #[inline]
     fn state(&mut self) -> *mut [f32; 8] {
         (self as *mut Self).cast()
     }
@@ -714,6 +737,7 @@ impl CrossoverSvf {
     }
 
     /// All fields 0.
+    #[inline]
     pub fn new() -> Self {
         let mut filter = Self::default();
         unsafe { ffi::crossover_svf_new(filter.state()) };
@@ -721,11 +745,13 @@ impl CrossoverSvf {
     }
 
     /// As [`CrossoverSvf::reset`].
+    #[inline]
     pub fn init(&mut self) {
         unsafe { ffi::crossover_svf_init(self.state()) }
     }
 
     /// Clears the state and the last samples.
+    #[inline]
     pub fn reset(&mut self) {
         unsafe { ffi::crossover_svf_reset(self.state()) }
     }
@@ -756,7 +782,7 @@ impl CrossoverSvf {
                 in_.len(),
                 out.as_mut_ptr(),
                 out.len(),
-                mode as u8,
+                mode as u32,
             )
         };
     }

@@ -1,8 +1,9 @@
 //! Zero-delay-feedback filters (one pole and SVF), the naive and the modified Chamberlin SVF, a crossover of two passes, and a DC blocker:
 //! the types and methods of `filter.rs`, by functions that are proved to compute the source's equations bit for bit.
 //!
-//! Code that is written for `filter.rs` compiles with `use motif_filters::..` in the place of its `use` line. Where a call can be refused
-//! it answers a `Result`, and a refused call leaves the filter and the buffers as they were:
+//! Code that is written for `filter.rs` compiles as it is with `use motif_filters::filter::..` in the place of its `use` line: the module
+//! [`filter`] has the source's signatures, and panics where a call is refused. At the top of the crate the six calls that can be refused
+//! answer a `Result` instead, and nothing panics. A refused call leaves the filter and the buffers as they were:
 //!
 //! | call | refused |
 //! |---|---|
@@ -28,6 +29,7 @@
 #[doc(hidden)]
 #[allow(missing_docs)]
 pub mod ffi;
+pub mod filter;
 mod filters;
 mod refusal;
 

@@ -27,6 +27,7 @@ impl Refusal {
     }
 
     // What a call answered: 0, or a refusal's number.
+    #[inline]
     pub(crate) fn of(number: u8) -> Result<(), Self> {
         match number {
             0 => Ok(()),

@@ -47,7 +47,7 @@ pub extern "C" fn crossover_svf_process(
     state: &mut [f32; 8],
     in_: &[f32],
     out: &mut [f32],
-    mode: u8,
+    mode: u32,
 ) -> u8
     ensures { λ r. ⌜ Runs crossoverFrom crossoverFields (unknownRefusal mode) (each (crossoverNext (modeOf mode))) (puts (crossoverOut (modeOf mode)))
         (now (state .entry)) (within (now («in_» .entry)) (now (out .entry))) (now (out .entry)) r (now (state .exit)) (now (out .exit)) ⌝ }

@@ -47,7 +47,7 @@ pub extern "C" fn modified_svf_process(
     state: &mut [f32; 5],
     in_: &[f32],
     out: &mut [f32],
-    mode: u8,
+    mode: u32,
 ) -> u8
     ensures { λ r. ⌜ Runs modifiedFrom modifiedFields (unknownRefusal mode) (each (modifiedNext (modeOf mode))) (puts (modifiedOut (modeOf mode)))
         (now (state .entry)) (within (now («in_» .entry)) (now (out .entry))) (now (out .entry)) r (now (state .exit)) (now (out .exit)) ⌝ }

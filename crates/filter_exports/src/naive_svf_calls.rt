@@ -39,7 +39,7 @@ pub extern "C" fn naive_svf_set_f_q(
     state: &mut [f32; 4],
     f: f32,
     resonance: f32,
-    approximation: u8,
+    approximation: u32,
 ) -> u8
     ensures { λ r. ⌜ Sets (unknownRefusal approximation then frequencyRefusal f (approximationOf approximation))
         (now (state .entry)) (naiveFields (naiveSetFQ (naiveFrom (now (state .entry))) f resonance (approximationOf approximation))) r (now (state .exit)) ⌝ }
@@ -75,7 +75,7 @@ pub extern "C" fn naive_svf_bp(state: &[f32; 4]) -> f32
 
 // Refused with UNKNOWN, as each call below that takes a mode.
 #[no_mangle]
-pub extern "C" fn naive_svf_process(state: &mut [f32; 4], in_: f32, mode: u8, out: &mut f32) -> u8
+pub extern "C" fn naive_svf_process(state: &mut [f32; 4], in_: f32, mode: u32, out: &mut f32) -> u8
     ensures { λ r. ⌜ Answers (unknownRefusal mode) (now (state .entry)) (naiveFields (naiveNext (naiveFrom (now (state .entry))) «in_»))
         (now (out .entry)) (naiveOut (modeOf mode) (naiveFrom (now (state .entry))) «in_») r (now (state .exit)) (now (out .exit)) ⌝ }
 {
@@ -93,7 +93,7 @@ pub extern "C" fn naive_svf_process_buffer(
     state: &mut [f32; 4],
     in_: &[f32],
     out: &mut [f32],
-    mode: u8,
+    mode: u32,
 ) -> u8
     ensures { λ r. ⌜ Runs naiveFrom naiveFields (unknownRefusal mode) (each naiveNext) (puts (naiveOut (modeOf mode)))
         (now (state .entry)) (within (now («in_» .entry)) (now (out .entry))) (now (out .entry)) r (now (state .exit)) (now (out .exit)) ⌝ }
@@ -136,7 +136,7 @@ pub extern "C" fn naive_svf_process_decimate(
     in_: &[f32],
     out: &mut [f32],
     decimate: usize,
-    mode: u8,
+    mode: u32,
 ) -> u8
     ensures { λ r. ⌜ Runs naiveFrom naiveFields (unknownRefusal mode then stepRefusal decimate) (each naiveNext) (putsDue decimate (naiveOut (modeOf mode)))
         (now (state .entry)) (within (now («in_» .entry)) (now (out .entry))) (now (out .entry)) r (now (state .exit)) (now (out .exit)) ⌝ }

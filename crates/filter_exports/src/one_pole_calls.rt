@@ -35,7 +35,7 @@ pub extern "C" fn one_pole_reset(state: &mut [f32; 3])
 
 // Refused with UNKNOWN, then with 11 where Exact gets an f below 0.
 #[no_mangle]
-pub extern "C" fn one_pole_tan(f: f32, approximation: u8, value: &mut f32) -> u8
+pub extern "C" fn one_pole_tan(f: f32, approximation: u32, value: &mut f32) -> u8
     ensures { λ r. ⌜ Gives (unknownRefusal approximation then frequencyRefusal f (approximationOf approximation))
         (now (value .entry)) (tanOf f (approximationOf approximation)) r (now (value .exit)) ⌝ }
 {
@@ -52,7 +52,7 @@ pub extern "C" fn one_pole_tan(f: f32, approximation: u8, value: &mut f32) -> u8
 
 // Refused as one_pole_tan is.
 #[no_mangle]
-pub extern "C" fn one_pole_set_f(state: &mut [f32; 3], f: f32, approximation: u8) -> u8
+pub extern "C" fn one_pole_set_f(state: &mut [f32; 3], f: f32, approximation: u32) -> u8
     ensures { λ r. ⌜ Sets (unknownRefusal approximation then frequencyRefusal f (approximationOf approximation))
         (now (state .entry)) (onePoleFields (onePoleSetF (onePoleFrom (now (state .entry))) f (approximationOf approximation))) r (now (state .exit)) ⌝ }
 {
@@ -72,7 +72,7 @@ pub extern "C" fn one_pole_set_f(state: &mut [f32; 3], f: f32, approximation: u8
 
 // Refused with UNKNOWN.
 #[no_mangle]
-pub extern "C" fn one_pole_process(state: &mut [f32; 3], in_: f32, mode: u8, out: &mut f32) -> u8
+pub extern "C" fn one_pole_process(state: &mut [f32; 3], in_: f32, mode: u32, out: &mut f32) -> u8
     ensures { λ r. ⌜ Answers (unknownRefusal mode) (now (state .entry)) (onePoleFields (onePoleNext (onePoleFrom (now (state .entry))) «in_»))
         (now (out .entry)) (onePoleOut (modeOf mode) (onePoleFrom (now (state .entry))) «in_») r (now (state .exit)) (now (out .exit)) ⌝ }
 {

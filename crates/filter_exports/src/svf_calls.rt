@@ -66,7 +66,12 @@ pub extern "C" fn svf_set_g_q(state: &mut [f32; 5], g: f32, resonance: f32)
 
 // Refused with UNKNOWN, then with 11 where Exact gets an f below 0.
 #[no_mangle]
-pub extern "C" fn svf_set_f_q(state: &mut [f32; 5], f: f32, resonance: f32, approximation: u8) -> u8
+pub extern "C" fn svf_set_f_q(
+    state: &mut [f32; 5],
+    f: f32,
+    resonance: f32,
+    approximation: u32,
+) -> u8
     ensures { λ r. ⌜ Sets (unknownRefusal approximation then frequencyRefusal f (approximationOf approximation))
         (now (state .entry)) (svfFields (svfSetFQ (svfFrom (now (state .entry))) f resonance (approximationOf approximation))) r (now (state .exit)) ⌝ }
 {
@@ -108,7 +113,7 @@ pub extern "C" fn svf_h(state: &[f32; 5]) -> f32
 
 // Refused with UNKNOWN, as each call below that takes a mode.
 #[no_mangle]
-pub extern "C" fn svf_process(state: &mut [f32; 5], in_: f32, mode: u8, out: &mut f32) -> u8
+pub extern "C" fn svf_process(state: &mut [f32; 5], in_: f32, mode: u32, out: &mut f32) -> u8
     ensures { λ r. ⌜ Answers (unknownRefusal mode) (now (state .entry)) (svfFields (svfNext (svfFrom (now (state .entry))) «in_»))
         (now (out .entry)) (svfOut (modeOf mode) (svfFrom (now (state .entry))) «in_») r (now (state .exit)) (now (out .exit)) ⌝ }
 {
@@ -127,8 +132,8 @@ pub extern "C" fn svf_process_dual(
     in_: f32,
     out_1: &mut f32,
     out_2: &mut f32,
-    mode_1: u8,
-    mode_2: u8,
+    mode_1: u32,
+    mode_2: u32,
 ) -> u8
     ensures first { λ r. ⌜ Answers (unknownRefusal «mode_1» then unknownRefusal «mode_2») (now (state .entry)) (svfFields (svfNext (svfFrom (now (state .entry))) «in_»))
         (now («out_1» .entry)) (svfOut (modeOf «mode_1») (svfFrom (now (state .entry))) «in_») r (now (state .exit)) (now («out_1» .exit)) ⌝ }
@@ -157,7 +162,7 @@ pub extern "C" fn svf_process_buffer(
     state: &mut [f32; 5],
     in_: &[f32],
     out: &mut [f32],
-    mode: u8,
+    mode: u32,
 ) -> u8
     ensures { λ r. ⌜ Runs svfFrom svfFields (unknownRefusal mode) (each svfNext) (puts (svfOut (modeOf mode)))
         (now (state .entry)) (within (now («in_» .entry)) (now (out .entry))) (now (out .entry)) r (now (state .exit)) (now (out .exit)) ⌝ }
@@ -177,7 +182,7 @@ pub extern "C" fn svf_process_add_buffer(
     in_: &[f32],
     out: &mut [f32],
     gain: f32,
-    mode: u8,
+    mode: u32,
 ) -> u8
     ensures { λ r. ⌜ Runs svfFrom svfFields (unknownRefusal mode) (each svfNext) (puts (svfGained (modeOf mode) gain))
         (now (state .entry)) (within (now («in_» .entry)) (now (out .entry))) (now (out .entry)) r (now (state .exit)) (now (out .exit)) ⌝ }
@@ -202,7 +207,7 @@ pub extern "C" fn svf_process_stride_buffer(
     in_: &[f32],
     out: &mut [f32],
     stride: usize,
-    mode: u8,
+    mode: u32,
 ) -> u8
     ensures { λ r. ⌜ Runs svfFrom svfFields (unknownRefusal mode then stepRefusal stride) (eachDue stride svfNext) (putsDue stride (svfOut (modeOf mode)))
         (now (state .entry)) (within (now («in_» .entry)) (now (out .entry))) (now (out .entry)) r (now (state .exit)) (now (out .exit)) ⌝ }
@@ -245,7 +250,7 @@ pub extern "C" fn svf_process_add_dual_buffer(
     out_2: &mut [f32],
     gain_1: f32,
     gain_2: f32,
-    mode: u8,
+    mode: u32,
 ) -> u8
     ensures first { λ r. ⌜ Runs svfFrom svfFields (unknownRefusal mode) (each svfNext) (puts (svfGained (modeOf mode) «gain_1»)) (now (state .entry))
         (within (within (now («in_» .entry)) (now («out_1» .entry))) (now («out_2» .entry))) (now («out_1» .entry)) r (now (state .exit)) (now («out_1» .exit)) ⌝ }

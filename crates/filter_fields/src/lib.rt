@@ -15,7 +15,7 @@ ghost use Rattle.filter_fields.specs.Numbers.{modeOf, approximationOf};
 ghost use Rattle.filter_fields.specs.Fields.{dcFrom, dcFields, onePoleFrom, onePoleFields, svfFrom, svfFields, svfRetained};
 ghost use Rattle.filter_fields.specs.Fields.{naiveFrom, naiveFields, modifiedFrom, modifiedFields, crossoverFrom, crossoverFields};
 
-pub fn mode_of(n: u8) -> FilterMode
+pub fn mode_of(n: u32) -> FilterMode
     ensures { λ m. ⌜ m ≡ modeOf n ⌝ }
 {
     match n {
@@ -26,7 +26,7 @@ pub fn mode_of(n: u8) -> FilterMode
     }
 }
 
-pub fn approximation_of(n: u8) -> FrequencyApproximation
+pub fn approximation_of(n: u32) -> FrequencyApproximation
     ensures { λ a. ⌜ a ≡ approximationOf n ⌝ }
 {
     match n {

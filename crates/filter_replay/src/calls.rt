@@ -9,9 +9,9 @@ use filter_exports::one_pole_calls;
 use filter_exports::svf_calls;
 
 // What a call takes besides its filter and its buffers.
-pub struct Settings {
-    pub a: u8,
-    pub b: u8,
+pub(crate) struct Settings {
+    pub a: u32,
+    pub b: u32,
     pub step: usize,
     pub p: f32,
     pub q: f32,
@@ -19,7 +19,7 @@ pub struct Settings {
 }
 
 // How much of each buffer is lent.
-pub struct Lengths {
+pub(crate) struct Lengths {
     pub input: usize,
     pub out_1: usize,
     pub out_2: usize,

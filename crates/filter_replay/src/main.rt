@@ -12,18 +12,14 @@ use calls::Settings;
 mod calls;
 mod record;
 
-fn low_byte(n: u32) -> u8 {
-    if n < 256 { n as u8 } else { 255 }
-}
-
 fn wide(n: u32) -> u64 {
     n as u64
 }
 
 fn settings(w: &[u32; 68]) -> Settings {
     Settings {
-        a: low_byte(w[1]),
-        b: low_byte(w[2]),
+        a: w[1],
+        b: w[2],
         step: (wide(w[3]) | (wide(w[4]) << 32)) as usize,
         p: words::word_to_f32(w[5]),
         q: words::word_to_f32(w[6]),

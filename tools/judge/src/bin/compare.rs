@@ -127,15 +127,23 @@ fn frequency_refusal(f: f32, approximation: oracle::FrequencyApproximation) -> u
     }
 }
 
-// A number that names no mode.
-fn unknown(n: &mut Numbers) -> u8 {
-    4 + n.below(252) as u8
+// A number that names no mode: a byte, one whose low byte would name a mode, what C makes of a negative int, or any.
+fn unknown(n: &mut Numbers) -> u32 {
+    match n.below(4) {
+        0 => 4 + n.below(252) as u32,
+        1 => (1 + n.below(0xFF_FFFF) as u32) << 8 | n.below(4) as u32,
+        2 => u32::MAX - n.below(256) as u32,
+        _ => (n.next() as u32).max(4),
+    }
 }
 
 // Both sides from the same words.
 macro_rules! pair {
     ($type:ident, $w:expr) => {
-        (oracle::$type::from_fields($w), proved::$type::from_fields($w))
+        (
+            oracle::$type::from_fields($w),
+            proved::$type::from_fields($w),
+        )
     };
 }
 
@@ -401,11 +409,11 @@ fn svf(n: &mut Numbers, t: &mut Tally, tame: bool) {
             t.refusal(UNKNOWN, ffi::svf_process(&mut state, 1.0, bad, &mut o1));
             t.refusal(
                 UNKNOWN,
-                ffi::svf_process_dual(&mut state, 1.0, &mut o1, &mut o2, bad, k as u8),
+                ffi::svf_process_dual(&mut state, 1.0, &mut o1, &mut o2, bad, k as u32),
             );
             t.refusal(
                 UNKNOWN,
-                ffi::svf_process_dual(&mut state, 1.0, &mut o1, &mut o2, k as u8, bad),
+                ffi::svf_process_dual(&mut state, 1.0, &mut o1, &mut o2, k as u32, bad),
             );
             t.refusal(
                 UNKNOWN,
@@ -614,6 +622,50 @@ macro_rules! chamberlin {
 chamberlin!(modified, ModifiedSvf, 5, ffi::modified_svf_process);
 chamberlin!(crossover, CrossoverSvf, 8, ffi::crossover_svf_process);
 
+// Code that is written for filter.rs, on the source's types and on ours.
+mod on_source {
+    use judge::oracle::*;
+    include!("../../../../bindings/rust/tests/user/filters_in_use.rs");
+}
+
+mod on_ours {
+    use judge::proved::filter::*;
+    include!("../../../../bindings/rust/tests/user/filters_in_use.rs");
+}
+
+fn user(n: &mut Numbers, t: &mut Tally, tame: bool) {
+    let length = n.below(33) as usize;
+    let input = n.buffer(length, tame);
+    let (f, resonance, step) = if tame {
+        (n.frequency(), 1.0 + n.frequency(), n.step(length))
+    } else {
+        (n.any().abs(), n.any(), n.step(length))
+    };
+    for (p, q) in APPROXIMATIONS {
+        t.at(
+            "a user's code",
+            format!("{input:?} {f:?} {resonance:?} {step} {p:?}"),
+        );
+        t.words(
+            "the answer",
+            &on_source::answers(&input, f, resonance, step, p),
+            &on_ours::answers(&input, f, resonance, step, q),
+        );
+    }
+}
+
+// The source's signatures and text, on both sides.
+fn signatures(t: &mut Tally) {
+    on_source::signatures();
+    on_ours::signatures();
+    t.at("a user's code", String::new());
+    let (a, b) = (on_source::shown(), on_ours::shown());
+    if a != b {
+        t.fail("its Debug text", a, b);
+    }
+    t.count(1);
+}
+
 fn random(seed: u64, rounds: u64) {
     let start = Instant::now();
     let mut n = Numbers(seed);
@@ -623,6 +675,7 @@ fn random(seed: u64, rounds: u64) {
         what: String::new(),
     };
     news(&mut t);
+    signatures(&mut t);
     for round in 0..rounds {
         let tame = round % 2 == 0;
         dc_blocker(&mut n, &mut t, tame);
@@ -631,6 +684,7 @@ fn random(seed: u64, rounds: u64) {
         naive(&mut n, &mut t, tame);
         modified(&mut n, &mut t, tame);
         crossover(&mut n, &mut t, tame);
+        user(&mut n, &mut t, tame);
     }
     for (method, count) in &t.counts {
         println!("{method:32} {count:>10}");
