@@ -1,4 +1,4 @@
--- The gains of multimode: low-pass at 0, high-pass at 0.5, band-pass at 1.
+-- The gains of multimode: low-pass at 0, inverted high-pass at 0.5, band-pass at 1.
 use mathlib.Core.Bool.{cond}
 use lib.Ieee.{Float, lt}
 use Rattle.filter_core.specs.Arithmetic.{_+ᶠ_, _-ᶠ_, _*ᶠ_, negᶠ, zeroᶠ, halfᶠ, oneᶠ, twoᶠ}

@@ -1,4 +1,4 @@
-// The gains of multimode, which goes from low-pass at 0 by high-pass at 0.5 to band-pass at 1.
+// The gains of multimode, which goes from low-pass at 0 by the inverted high-pass at 0.5 to band-pass at 1.
 
 ghost use mathlib.Core.Path.{_≡_};
 ghost use Rattle.multimode.specs.Multimode.{highGain, bandGain, lowGain};

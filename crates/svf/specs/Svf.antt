@@ -68,7 +68,7 @@ svfOut m s x = byMode m (svfLow s x) (svfBand s x) (svfBand s x *ᶠ s .r) (svfH
 abbrev pub svfGained : FilterMode → Float → Svf → Float → Float
 svfGained m gain s x = svfOut m s x *ᶠ gain
 
--- ---- multimode: low-pass at 0, high-pass at 0.5, band-pass at 1
+-- ---- multimode: low-pass at 0, inverted high-pass at 0.5, band-pass at 1
 
 unfoldable pub svfMixed : Float → Float → Float → Svf → Float → Float
 svfMixed high band low s x = high *ᶠ svfHigh s x +ᶠ band *ᶠ svfBand s x +ᶠ low *ᶠ svfLow s x
