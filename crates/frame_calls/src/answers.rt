@@ -1,9 +1,11 @@
 // A line is read, its call made, and its answer put into the output.
 
+use crate::faults;
 use crate::samples::of_run;
 use crate::samples::of_two;
 use crate::text::put_bad_line;
 use crate::text::put_head;
+use crate::text::put_keyword;
 use crate::text::put_long_line;
 use crate::text::put_mark;
 use crate::text::put_number;
@@ -21,50 +23,43 @@ use form_text::text;
 use frame::Answer;
 use frame::Frame;
 
-// The frame after the line, and the place behind the answer.
+// The frame after a line, and the place behind its answer in the output.
 pub(crate) struct Answered {
     pub(crate) frame: Frame,
     pub(crate) at: usize,
 }
 
-fn plain(answer: Answer, line: &[u8], out: &mut [u8], at: usize) -> Answered {
+fn plain(answer: Answer, out: &mut [u8], at: usize) -> Answered {
     let frame = answer.frame;
-    let to = put_number(line, answer.number, out, at);
+    let to = put_number(answer.number, out, at);
     Answered { frame, at: to }
 }
 
-fn mark(frame: Frame, head: usize, line: &[u8], out: &mut [u8], at: usize) -> Answered {
+fn mark(frame: Frame, head: usize, out: &mut [u8], at: usize) -> Answered {
     let answer = frame.mark(head);
     let next = answer.frame;
-    let to = put_mark(line, answer.number, answer.mark, out, at);
+    let to = put_mark(answer.number, answer.mark, out, at);
     Answered {
         frame: next,
         at: to,
     }
 }
 
-fn head(frame: Frame, head: usize, line: &[u8], out: &mut [u8], at: usize) -> Answered {
+fn head(frame: Frame, head: usize, out: &mut [u8], at: usize) -> Answered {
     let answer = frame.show(head);
     let next = answer.frame;
-    let to = put_head(line, answer.number, answer.head, out, at);
+    let to = put_head(answer.number, answer.head, out, at);
     Answered {
         frame: next,
         at: to,
     }
 }
 
-fn of_head(
-    keyword: usize,
-    frame: Frame,
-    h: usize,
-    line: &[u8],
-    out: &mut [u8],
-    at: usize,
-) -> Answered {
+fn of_head(keyword: usize, frame: Frame, h: usize, out: &mut [u8], at: usize) -> Answered {
     match keyword {
-        REST => plain(frame.rest(h), line, out, at),
-        MARK => mark(frame, h, line, out, at),
-        _ => head(frame, h, line, out, at),
+        REST => plain(frame.rest(h), out, at),
+        MARK => mark(frame, h, out, at),
+        _ => head(frame, h, out, at),
     }
 }
 
@@ -81,17 +76,16 @@ fn of_head_number(
     frame: Frame,
     head: usize,
     n: usize,
-    line: &[u8],
     out: &mut [u8],
     at: usize,
 ) -> Answered {
-    plain(head_number(keyword, frame, head, n), line, out, at)
+    plain(head_number(keyword, frame, head, n), out, at)
 }
 
-fn write(frame: Frame, bytes: &mut [u8], line: &[u8], out: &mut [u8], at: usize) -> Answered {
+fn write(frame: Frame, bytes: &mut [u8], out: &mut [u8], at: usize) -> Answered {
     let answer = frame.write(bytes);
     let next = answer.frame;
-    let to = put_written(line, answer.number, answer.length, bytes, out, at);
+    let to = put_written(answer.number, answer.length, bytes, out, at);
     Answered {
         frame: next,
         at: to,
@@ -102,13 +96,12 @@ fn with_bytes(
     keyword: usize,
     frame: Frame,
     bytes: &mut [u8],
-    line: &[u8],
     out: &mut [u8],
     at: usize,
 ) -> Answered {
     match keyword {
-        OPEN => plain(frame.open(bytes), line, out, at),
-        _ => write(frame, bytes, line, out, at),
+        OPEN => plain(frame.open(bytes), out, at),
+        _ => write(frame, bytes, out, at),
     }
 }
 
@@ -122,20 +115,13 @@ fn of_bytes(
 ) -> Answered {
     let mut bytes = [0u8; 4096];
     let n = digits::bytes(text(line, part), &mut bytes);
-    with_bytes(keyword, frame, &mut bytes[..n], line, out, at)
+    with_bytes(keyword, frame, &mut bytes[..n], out, at)
 }
 
-fn with_sheet(
-    keyword: usize,
-    sheet: &[u8],
-    entry: usize,
-    line: &[u8],
-    out: &mut [u8],
-    at: usize,
-) -> usize {
+fn with_sheet(keyword: usize, sheet: &[u8], entry: usize, out: &mut [u8], at: usize) -> usize {
     match keyword {
-        CHECK => put_number(line, sheets::check_entry(sheet, entry), out, at),
-        _ => put_part(line, sheets::lookup(sheet, entry), out, at),
+        CHECK => put_number(sheets::check_entry(sheet, entry), out, at),
+        _ => put_part(sheets::lookup(sheet, entry), out, at),
     }
 }
 
@@ -150,34 +136,67 @@ fn of_bytes_number(
 ) -> Answered {
     let mut bytes = [0u8; 4096];
     let n = digits::bytes(text(line, part), &mut bytes);
-    let to = with_sheet(keyword, &bytes[..n], entry, line, out, at);
+    let to = with_sheet(keyword, &bytes[..n], entry, out, at);
     Answered { frame, at: to }
 }
 
-fn bad_line(frame: Frame, out: &mut [u8], at: usize) -> Answered {
-    let to = put_bad_line(out, at);
-    Answered { frame, at: to }
-}
-
-fn of_call(call: Call, frame: Frame, line: &[u8], out: &mut [u8], at: usize) -> Answered {
+// The lines with the bytes of a sheet. No other line comes here.
+fn of_sheet(call: Call, frame: Frame, line: &[u8], out: &mut [u8], at: usize) -> Answered {
     match call {
-        Call::Silent => Answered { frame, at },
-        Call::BadLine => bad_line(frame, out, at),
-        Call::OfHead(k, h) => of_head(k, frame, h, line, out, at),
-        Call::OfHeadNumber(k, h, n) => of_head_number(k, frame, h, n, line, out, at),
         Call::OfBytes(k, b) => of_bytes(k, frame, b, line, out, at),
         Call::OfBytesNumber(k, b, n) => of_bytes_number(k, frame, b, n, line, out, at),
-        Call::OfRun(h, form, i, o) => of_run(frame, h, form, i, o, line, out, at),
-        Call::OfTwo(h, form, i, o, p) => of_two(frame, h, form, i, o, p, line, out, at),
+        _ => Answered { frame, at },
     }
 }
 
-pub(crate) fn answer(frame: Frame, line: &[u8], out: &mut [u8], at: usize) -> Answered {
-    if 65535 < line.len() {
-        return Answered {
-            frame,
-            at: put_long_line(out, at),
-        };
+// The lines with numbers alone, or those with a sheet.
+fn of_numbers(call: Call, frame: Frame, line: &[u8], out: &mut [u8], at: usize) -> Answered {
+    match call {
+        Call::OfHead(k, h) => of_head(k, frame, h, out, at),
+        Call::OfHeadNumber(k, h, n) => of_head_number(k, frame, h, n, out, at),
+        _ => of_sheet(call, frame, line, out, at),
     }
-    of_call(call_text::call_of(line), frame, line, out, at)
+}
+
+// The lines with samples first, of which a job has most.
+fn of_call(call: Call, frame: Frame, line: &[u8], out: &mut [u8], at: usize) -> Answered {
+    match call {
+        Call::OfRun(h, form, i, o) => of_run(frame, h, form, i, o, line, out, at),
+        Call::OfTwo(h, form, i, o, p) => of_two(frame, h, form, i, o, p, line, out, at),
+        _ => of_numbers(call, frame, line, out, at),
+    }
+}
+
+fn bad_line(now: Answered, lines: usize, line: &[u8], out: &mut [u8]) -> Answered {
+    faults::bad_line(lines, line);
+    let frame = now.frame;
+    let at = put_bad_line(out, now.at);
+    Answered { frame, at }
+}
+
+fn long_line(now: Answered, lines: usize, out: &mut [u8]) -> Answered {
+    faults::long_line(lines);
+    let frame = now.frame;
+    let at = put_long_line(out, now.at);
+    Answered { frame, at }
+}
+
+fn of_line(now: Answered, lines: usize, line: &[u8], out: &mut [u8]) -> Answered {
+    let call = call_text::call_of(line);
+    match call {
+        Call::Silent => now,
+        Call::BadLine => bad_line(now, lines, line, out),
+        _ => {
+            let at = put_keyword(line, out, now.at);
+            of_call(call, now.frame, line, out, at)
+        }
+    }
+}
+
+// `lines` is the line's number.
+pub(crate) fn answer(now: Answered, lines: usize, line: &[u8], out: &mut [u8]) -> Answered {
+    if 65535 < line.len() {
+        return long_line(now, lines, out);
+    }
+    of_line(now, lines, line, out)
 }

@@ -14,13 +14,12 @@ fn run(
     form: RunForm,
     input: &[f32],
     output: &mut [f32],
-    line: &[u8],
     out: &mut [u8],
     at: usize,
 ) -> Answered {
     let answer = frame.run(head, form, input, output);
     let next = answer.frame;
-    let to = put_run(line, answer.number, output, out, at);
+    let to = put_run(answer.number, output, out, at);
     Answered {
         frame: next,
         at: to,
@@ -41,16 +40,7 @@ pub(crate) fn of_run(
     let mut output = [0.0f32; 1024];
     let n = digits::samples(text(line, i), &mut input);
     let m = digits::samples(text(line, o), &mut output);
-    run(
-        frame,
-        head,
-        form,
-        &input[..n],
-        &mut output[..m],
-        line,
-        out,
-        at,
-    )
+    run(frame, head, form, &input[..n], &mut output[..m], out, at)
 }
 
 fn two(
@@ -60,13 +50,12 @@ fn two(
     input: &[f32],
     first: &mut [f32],
     second: &mut [f32],
-    line: &[u8],
     out: &mut [u8],
     at: usize,
 ) -> Answered {
     let answer = frame.run_two(head, form, input, first, second);
     let next = answer.frame;
-    let to = put_two(line, answer.number, first, second, out, at);
+    let to = put_two(answer.number, first, second, out, at);
     Answered {
         frame: next,
         at: to,
@@ -97,7 +86,6 @@ pub(crate) fn of_two(
         &input[..n],
         &mut first[..m],
         &mut second[..k],
-        line,
         out,
         at,
     )
