@@ -35,31 +35,25 @@ fn plain(answer: Answer, out: &mut [u8], at: usize) -> Answered {
     Answered { frame, at: to }
 }
 
-fn mark(frame: Frame, head: usize, out: &mut [u8], at: usize) -> Answered {
-    let answer = frame.mark(head);
-    let next = answer.frame;
-    let to = put_mark(answer.number, answer.mark, out, at);
-    Answered {
-        frame: next,
-        at: to,
-    }
+fn mark(now: Answered, head: usize, out: &mut [u8]) -> Answered {
+    let answer = now.frame.mark(head);
+    let frame = answer.frame;
+    let at = put_mark(answer.number, answer.mark, out, now.at);
+    Answered { frame, at }
 }
 
-fn head(frame: Frame, head: usize, out: &mut [u8], at: usize) -> Answered {
-    let answer = frame.show(head);
-    let next = answer.frame;
-    let to = put_head(answer.number, answer.head, out, at);
-    Answered {
-        frame: next,
-        at: to,
-    }
+fn head(now: Answered, head: usize, out: &mut [u8]) -> Answered {
+    let answer = now.frame.show(head);
+    let frame = answer.frame;
+    let at = put_head(answer.number, answer.head, out, now.at);
+    Answered { frame, at }
 }
 
-fn of_head(keyword: usize, frame: Frame, h: usize, out: &mut [u8], at: usize) -> Answered {
+fn of_head(keyword: usize, now: Answered, h: usize, out: &mut [u8]) -> Answered {
     match keyword {
-        REST => plain(frame.rest(h), out, at),
-        MARK => mark(frame, h, out, at),
-        _ => head(frame, h, out, at),
+        REST => plain(now.frame.rest(h), out, now.at),
+        MARK => mark(now, h, out),
+        _ => head(now, h, out),
     }
 }
 
@@ -73,49 +67,32 @@ fn head_number(keyword: usize, frame: Frame, head: usize, n: usize) -> Answer {
 
 fn of_head_number(
     keyword: usize,
-    frame: Frame,
+    now: Answered,
     head: usize,
     n: usize,
     out: &mut [u8],
-    at: usize,
 ) -> Answered {
-    plain(head_number(keyword, frame, head, n), out, at)
+    plain(head_number(keyword, now.frame, head, n), out, now.at)
 }
 
-fn write(frame: Frame, bytes: &mut [u8], out: &mut [u8], at: usize) -> Answered {
-    let answer = frame.write(bytes);
-    let next = answer.frame;
-    let to = put_written(answer.number, answer.length, bytes, out, at);
-    Answered {
-        frame: next,
-        at: to,
-    }
+fn write(now: Answered, bytes: &mut [u8], out: &mut [u8]) -> Answered {
+    let answer = now.frame.write(bytes);
+    let frame = answer.frame;
+    let at = put_written(answer.number, answer.length, bytes, out, now.at);
+    Answered { frame, at }
 }
 
-fn with_bytes(
-    keyword: usize,
-    frame: Frame,
-    bytes: &mut [u8],
-    out: &mut [u8],
-    at: usize,
-) -> Answered {
+fn with_bytes(keyword: usize, now: Answered, bytes: &mut [u8], out: &mut [u8]) -> Answered {
     match keyword {
-        OPEN => plain(frame.open(bytes), out, at),
-        _ => write(frame, bytes, out, at),
+        OPEN => plain(now.frame.open(bytes), out, now.at),
+        _ => write(now, bytes, out),
     }
 }
 
-fn of_bytes(
-    keyword: usize,
-    frame: Frame,
-    part: Part,
-    line: &[u8],
-    out: &mut [u8],
-    at: usize,
-) -> Answered {
+fn of_bytes(keyword: usize, now: Answered, part: Part, line: &[u8], out: &mut [u8]) -> Answered {
     let mut bytes = [0u8; 4096];
     let n = digits::bytes(text(line, part), &mut bytes);
-    with_bytes(keyword, frame, &mut bytes[..n], out, at)
+    with_bytes(keyword, now, &mut bytes[..n], out)
 }
 
 fn with_sheet(keyword: usize, sheet: &[u8], entry: usize, out: &mut [u8], at: usize) -> usize {
@@ -127,68 +104,69 @@ fn with_sheet(keyword: usize, sheet: &[u8], entry: usize, out: &mut [u8], at: us
 
 fn of_bytes_number(
     keyword: usize,
-    frame: Frame,
+    mut now: Answered,
     part: Part,
     entry: usize,
     line: &[u8],
     out: &mut [u8],
-    at: usize,
 ) -> Answered {
     let mut bytes = [0u8; 4096];
     let n = digits::bytes(text(line, part), &mut bytes);
-    let to = with_sheet(keyword, &bytes[..n], entry, out, at);
-    Answered { frame, at: to }
+    let at = with_sheet(keyword, &bytes[..n], entry, out, now.at);
+    now.at = at;
+    now
 }
 
 // The lines with the bytes of a sheet. No other line comes here.
-fn of_sheet(call: Call, frame: Frame, line: &[u8], out: &mut [u8], at: usize) -> Answered {
+fn of_sheet(call: Call, now: Answered, line: &[u8], out: &mut [u8]) -> Answered {
     match call {
-        Call::OfBytes(k, b) => of_bytes(k, frame, b, line, out, at),
-        Call::OfBytesNumber(k, b, n) => of_bytes_number(k, frame, b, n, line, out, at),
-        _ => Answered { frame, at },
+        Call::OfBytes(k, b) => of_bytes(k, now, b, line, out),
+        Call::OfBytesNumber(k, b, n) => of_bytes_number(k, now, b, n, line, out),
+        _ => now,
     }
 }
 
 // The lines with numbers alone, or those with a sheet.
-fn of_numbers(call: Call, frame: Frame, line: &[u8], out: &mut [u8], at: usize) -> Answered {
+fn of_numbers(call: Call, now: Answered, line: &[u8], out: &mut [u8]) -> Answered {
     match call {
-        Call::OfHead(k, h) => of_head(k, frame, h, out, at),
-        Call::OfHeadNumber(k, h, n) => of_head_number(k, frame, h, n, out, at),
-        _ => of_sheet(call, frame, line, out, at),
+        Call::OfHead(k, h) => of_head(k, now, h, out),
+        Call::OfHeadNumber(k, h, n) => of_head_number(k, now, h, n, out),
+        _ => of_sheet(call, now, line, out),
     }
 }
 
 // The lines with samples first, of which a job has most.
-fn of_call(call: Call, frame: Frame, line: &[u8], out: &mut [u8], at: usize) -> Answered {
+fn of_call(call: Call, now: Answered, line: &[u8], out: &mut [u8]) -> Answered {
     match call {
-        Call::OfRun(h, form, i, o) => of_run(frame, h, form, i, o, line, out, at),
-        Call::OfTwo(h, form, i, o, p) => of_two(frame, h, form, i, o, p, line, out, at),
-        _ => of_numbers(call, frame, line, out, at),
+        Call::OfRun(h, form, i, o) => of_run(now, h, form, i, o, line, out),
+        Call::OfTwo(h, form, i, o, p) => of_two(now, h, form, i, o, p, line, out),
+        _ => of_numbers(call, now, line, out),
     }
 }
 
-fn bad_line(now: Answered, lines: usize, line: &[u8], out: &mut [u8]) -> Answered {
+fn bad_line(mut now: Answered, lines: usize, line: &[u8], out: &mut [u8]) -> Answered {
     faults::bad_line(lines, line);
-    let frame = now.frame;
     let at = put_bad_line(out, now.at);
-    Answered { frame, at }
+    now.at = at;
+    now
 }
 
-fn long_line(now: Answered, lines: usize, out: &mut [u8]) -> Answered {
+fn long_line(mut now: Answered, lines: usize, out: &mut [u8]) -> Answered {
     faults::long_line(lines);
-    let frame = now.frame;
     let at = put_long_line(out, now.at);
-    Answered { frame, at }
+    now.at = at;
+    now
 }
 
-fn of_line(now: Answered, lines: usize, line: &[u8], out: &mut [u8]) -> Answered {
+fn of_line(mut now: Answered, lines: usize, line: &[u8], out: &mut [u8]) -> Answered {
     let call = call_text::call_of(line);
     match call {
         Call::Silent => now,
         Call::BadLine => bad_line(now, lines, line, out),
         _ => {
             let at = put_keyword(line, out, now.at);
-            of_call(call, now.frame, line, out, at)
+            now.at = at;
+            of_call(call, now, line, out)
         }
     }
 }
