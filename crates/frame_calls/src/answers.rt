@@ -23,6 +23,30 @@ use form_text::text;
 use frame::Answer;
 use frame::Frame;
 
+// What a line carries behind its keyword.
+const NOTHING: usize = 0;
+
+const NO_CALL: usize = 1;
+
+const NUMBERS: usize = 2;
+
+const SHEET: usize = 3;
+
+const SAMPLES: usize = 4;
+
+fn carried_by(call: Call) -> usize {
+    match call {
+        Call::Silent => NOTHING,
+        Call::BadLine => NO_CALL,
+        Call::OfHead(_, _) => NUMBERS,
+        Call::OfHeadNumber(_, _, _) => NUMBERS,
+        Call::OfBytes(_, _) => SHEET,
+        Call::OfBytesNumber(_, _, _) => SHEET,
+        Call::OfRun(_, _, _, _) => SAMPLES,
+        Call::OfTwo(_, _, _, _, _) => SAMPLES,
+    }
+}
+
 // The frame after a line, and the place behind its answer in the output.
 pub(crate) struct Answered {
     pub(crate) frame: Frame,
@@ -117,7 +141,6 @@ fn of_bytes_number(
     now
 }
 
-// The lines with the bytes of a sheet. No other line comes here.
 fn of_sheet(call: Call, now: Answered, line: &[u8], out: &mut [u8]) -> Answered {
     match call {
         Call::OfBytes(k, b) => of_bytes(k, now, b, line, out),
@@ -126,21 +149,28 @@ fn of_sheet(call: Call, now: Answered, line: &[u8], out: &mut [u8]) -> Answered 
     }
 }
 
-// The lines with numbers alone, or those with a sheet.
-fn of_numbers(call: Call, now: Answered, line: &[u8], out: &mut [u8]) -> Answered {
+fn of_numbers(call: Call, now: Answered, out: &mut [u8]) -> Answered {
     match call {
         Call::OfHead(k, h) => of_head(k, now, h, out),
         Call::OfHeadNumber(k, h, n) => of_head_number(k, now, h, n, out),
-        _ => of_sheet(call, now, line, out),
+        _ => now,
     }
 }
 
-// The lines with samples first, of which a job has most.
-fn of_call(call: Call, now: Answered, line: &[u8], out: &mut [u8]) -> Answered {
+fn of_samples(call: Call, now: Answered, line: &[u8], out: &mut [u8]) -> Answered {
     match call {
         Call::OfRun(h, form, i, o) => of_run(now, h, form, i, o, line, out),
         Call::OfTwo(h, form, i, o, p) => of_two(now, h, form, i, o, p, line, out),
-        _ => of_numbers(call, now, line, out),
+        _ => now,
+    }
+}
+
+// A function for what a line carries, and not an arm of one function for each call: a proof grows with the arms beside it.
+fn of_call(carried: usize, call: Call, now: Answered, line: &[u8], out: &mut [u8]) -> Answered {
+    match carried {
+        NUMBERS => of_numbers(call, now, out),
+        SHEET => of_sheet(call, now, line, out),
+        _ => of_samples(call, now, line, out),
     }
 }
 
@@ -160,13 +190,14 @@ fn long_line(mut now: Answered, lines: usize, out: &mut [u8]) -> Answered {
 
 fn of_line(mut now: Answered, lines: usize, line: &[u8], out: &mut [u8]) -> Answered {
     let call = call_text::call_of(line);
-    match call {
-        Call::Silent => now,
-        Call::BadLine => bad_line(now, lines, line, out),
+    let carried = carried_by(call);
+    match carried {
+        NOTHING => now,
+        NO_CALL => bad_line(now, lines, line, out),
         _ => {
             let at = put_keyword(line, out, now.at);
             now.at = at;
-            of_call(call, now, line, out)
+            of_call(carried, call, now, line, out)
         }
     }
 }

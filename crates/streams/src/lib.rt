@@ -6,6 +6,7 @@ ghost use lib.ListN.{length};
 ghost use Rattle.io.specs.Counts.{Counts};
 use libc::EAGAIN;
 use libc::EINTR;
+use libc::types::timespec;
 
 // What a read came to: how many bytes stand at the start of the buffer, none at the end of the input.
 pub struct Got {
@@ -20,8 +21,17 @@ pub fn within(n: usize, buf: &[u8]) -> usize
     if n < buf.len() { n } else { buf.len() }
 }
 
+// Waits for a millisecond, so that waiting costs no processor time. A reference to a struct is proved by hand, so this is all there is in it.
 fn pause() {
-    libc::sched_yield();
+    let asked = timespec {
+        tv_sec: 0,
+        tv_nsec: 1000000,
+    };
+    let mut left = timespec {
+        tv_sec: 0,
+        tv_nsec: 0,
+    };
+    libc::nanosleep(&asked, &mut left);
 }
 
 // Whether the call that has just failed is to be made again, after a pause where it would have blocked.
