@@ -1,9 +1,11 @@
 // A line is read, its call made, and its answer put into the output.
 
+use crate::faults;
 use crate::samples::of_run;
 use crate::samples::of_two;
 use crate::text::put_bad_line;
 use crate::text::put_head;
+use crate::text::put_keyword;
 use crate::text::put_long_line;
 use crate::text::put_mark;
 use crate::text::put_number;
@@ -21,50 +23,61 @@ use form_text::text;
 use frame::Answer;
 use frame::Frame;
 
-// The frame after the line, and the place behind the answer.
+// What a line carries behind its keyword.
+const NOTHING: usize = 0;
+
+const NO_CALL: usize = 1;
+
+const NUMBERS: usize = 2;
+
+const SHEET: usize = 3;
+
+const SAMPLES: usize = 4;
+
+fn carried_by(call: Call) -> usize {
+    match call {
+        Call::Silent => NOTHING,
+        Call::BadLine => NO_CALL,
+        Call::OfHead(_, _) => NUMBERS,
+        Call::OfHeadNumber(_, _, _) => NUMBERS,
+        Call::OfBytes(_, _) => SHEET,
+        Call::OfBytesNumber(_, _, _) => SHEET,
+        Call::OfRun(_, _, _, _) => SAMPLES,
+        Call::OfTwo(_, _, _, _, _) => SAMPLES,
+    }
+}
+
+// The frame after a line, and the place behind its answer in the output.
 pub(crate) struct Answered {
     pub(crate) frame: Frame,
     pub(crate) at: usize,
 }
 
-fn plain(answer: Answer, line: &[u8], out: &mut [u8], at: usize) -> Answered {
+fn plain(answer: Answer, out: &mut [u8], at: usize) -> Answered {
     let frame = answer.frame;
-    let to = put_number(line, answer.number, out, at);
+    let to = put_number(answer.number, out, at);
     Answered { frame, at: to }
 }
 
-fn mark(frame: Frame, head: usize, line: &[u8], out: &mut [u8], at: usize) -> Answered {
-    let answer = frame.mark(head);
-    let next = answer.frame;
-    let to = put_mark(line, answer.number, answer.mark, out, at);
-    Answered {
-        frame: next,
-        at: to,
-    }
+fn mark(now: Answered, head: usize, out: &mut [u8]) -> Answered {
+    let answer = now.frame.mark(head);
+    let frame = answer.frame;
+    let at = put_mark(answer.number, answer.mark, out, now.at);
+    Answered { frame, at }
 }
 
-fn head(frame: Frame, head: usize, line: &[u8], out: &mut [u8], at: usize) -> Answered {
-    let answer = frame.show(head);
-    let next = answer.frame;
-    let to = put_head(line, answer.number, answer.head, out, at);
-    Answered {
-        frame: next,
-        at: to,
-    }
+fn head(now: Answered, head: usize, out: &mut [u8]) -> Answered {
+    let answer = now.frame.show(head);
+    let frame = answer.frame;
+    let at = put_head(answer.number, answer.head, out, now.at);
+    Answered { frame, at }
 }
 
-fn of_head(
-    keyword: usize,
-    frame: Frame,
-    h: usize,
-    line: &[u8],
-    out: &mut [u8],
-    at: usize,
-) -> Answered {
+fn of_head(keyword: usize, now: Answered, h: usize, out: &mut [u8]) -> Answered {
     match keyword {
-        REST => plain(frame.rest(h), line, out, at),
-        MARK => mark(frame, h, line, out, at),
-        _ => head(frame, h, line, out, at),
+        REST => plain(now.frame.rest(h), out, now.at),
+        MARK => mark(now, h, out),
+        _ => head(now, h, out),
     }
 }
 
@@ -78,106 +91,121 @@ fn head_number(keyword: usize, frame: Frame, head: usize, n: usize) -> Answer {
 
 fn of_head_number(
     keyword: usize,
-    frame: Frame,
+    now: Answered,
     head: usize,
     n: usize,
-    line: &[u8],
     out: &mut [u8],
-    at: usize,
 ) -> Answered {
-    plain(head_number(keyword, frame, head, n), line, out, at)
+    plain(head_number(keyword, now.frame, head, n), out, now.at)
 }
 
-fn write(frame: Frame, bytes: &mut [u8], line: &[u8], out: &mut [u8], at: usize) -> Answered {
-    let answer = frame.write(bytes);
-    let next = answer.frame;
-    let to = put_written(line, answer.number, answer.length, bytes, out, at);
-    Answered {
-        frame: next,
-        at: to,
-    }
+fn write(now: Answered, bytes: &mut [u8], out: &mut [u8]) -> Answered {
+    let answer = now.frame.write(bytes);
+    let frame = answer.frame;
+    let at = put_written(answer.number, answer.length, bytes, out, now.at);
+    Answered { frame, at }
 }
 
-fn with_bytes(
-    keyword: usize,
-    frame: Frame,
-    bytes: &mut [u8],
-    line: &[u8],
-    out: &mut [u8],
-    at: usize,
-) -> Answered {
+fn with_bytes(keyword: usize, now: Answered, bytes: &mut [u8], out: &mut [u8]) -> Answered {
     match keyword {
-        OPEN => plain(frame.open(bytes), line, out, at),
-        _ => write(frame, bytes, line, out, at),
+        OPEN => plain(now.frame.open(bytes), out, now.at),
+        _ => write(now, bytes, out),
     }
 }
 
-fn of_bytes(
-    keyword: usize,
-    frame: Frame,
-    part: Part,
-    line: &[u8],
-    out: &mut [u8],
-    at: usize,
-) -> Answered {
+fn of_bytes(keyword: usize, now: Answered, part: Part, line: &[u8], out: &mut [u8]) -> Answered {
     let mut bytes = [0u8; 4096];
     let n = digits::bytes(text(line, part), &mut bytes);
-    with_bytes(keyword, frame, &mut bytes[..n], line, out, at)
+    with_bytes(keyword, now, &mut bytes[..n], out)
 }
 
-fn with_sheet(
-    keyword: usize,
-    sheet: &[u8],
-    entry: usize,
-    line: &[u8],
-    out: &mut [u8],
-    at: usize,
-) -> usize {
+fn with_sheet(keyword: usize, sheet: &[u8], entry: usize, out: &mut [u8], at: usize) -> usize {
     match keyword {
-        CHECK => put_number(line, sheets::check_entry(sheet, entry), out, at),
-        _ => put_part(line, sheets::lookup(sheet, entry), out, at),
+        CHECK => put_number(sheets::check_entry(sheet, entry), out, at),
+        _ => put_part(sheets::lookup(sheet, entry), out, at),
     }
 }
 
 fn of_bytes_number(
     keyword: usize,
-    frame: Frame,
+    mut now: Answered,
     part: Part,
     entry: usize,
     line: &[u8],
     out: &mut [u8],
-    at: usize,
 ) -> Answered {
     let mut bytes = [0u8; 4096];
     let n = digits::bytes(text(line, part), &mut bytes);
-    let to = with_sheet(keyword, &bytes[..n], entry, line, out, at);
-    Answered { frame, at: to }
+    let at = with_sheet(keyword, &bytes[..n], entry, out, now.at);
+    now.at = at;
+    now
 }
 
-fn bad_line(frame: Frame, out: &mut [u8], at: usize) -> Answered {
-    let to = put_bad_line(out, at);
-    Answered { frame, at: to }
-}
-
-fn of_call(call: Call, frame: Frame, line: &[u8], out: &mut [u8], at: usize) -> Answered {
+fn of_sheet(call: Call, now: Answered, line: &[u8], out: &mut [u8]) -> Answered {
     match call {
-        Call::Silent => Answered { frame, at },
-        Call::BadLine => bad_line(frame, out, at),
-        Call::OfHead(k, h) => of_head(k, frame, h, line, out, at),
-        Call::OfHeadNumber(k, h, n) => of_head_number(k, frame, h, n, line, out, at),
-        Call::OfBytes(k, b) => of_bytes(k, frame, b, line, out, at),
-        Call::OfBytesNumber(k, b, n) => of_bytes_number(k, frame, b, n, line, out, at),
-        Call::OfRun(h, form, i, o) => of_run(frame, h, form, i, o, line, out, at),
-        Call::OfTwo(h, form, i, o, p) => of_two(frame, h, form, i, o, p, line, out, at),
+        Call::OfBytes(k, b) => of_bytes(k, now, b, line, out),
+        Call::OfBytesNumber(k, b, n) => of_bytes_number(k, now, b, n, line, out),
+        _ => now,
     }
 }
 
-pub(crate) fn answer(frame: Frame, line: &[u8], out: &mut [u8], at: usize) -> Answered {
-    if 65535 < line.len() {
-        return Answered {
-            frame,
-            at: put_long_line(out, at),
-        };
+fn of_numbers(call: Call, now: Answered, out: &mut [u8]) -> Answered {
+    match call {
+        Call::OfHead(k, h) => of_head(k, now, h, out),
+        Call::OfHeadNumber(k, h, n) => of_head_number(k, now, h, n, out),
+        _ => now,
     }
-    of_call(call_text::call_of(line), frame, line, out, at)
+}
+
+fn of_samples(call: Call, now: Answered, line: &[u8], out: &mut [u8]) -> Answered {
+    match call {
+        Call::OfRun(h, form, i, o) => of_run(now, h, form, i, o, line, out),
+        Call::OfTwo(h, form, i, o, p) => of_two(now, h, form, i, o, p, line, out),
+        _ => now,
+    }
+}
+
+// A function for what a line carries, and not an arm of one function for each call: a proof grows with the arms beside it.
+fn of_call(carried: usize, call: Call, now: Answered, line: &[u8], out: &mut [u8]) -> Answered {
+    match carried {
+        NUMBERS => of_numbers(call, now, out),
+        SHEET => of_sheet(call, now, line, out),
+        _ => of_samples(call, now, line, out),
+    }
+}
+
+fn bad_line(mut now: Answered, lines: usize, line: &[u8], out: &mut [u8]) -> Answered {
+    faults::bad_line(lines, line);
+    let at = put_bad_line(out, now.at);
+    now.at = at;
+    now
+}
+
+fn long_line(mut now: Answered, lines: usize, out: &mut [u8]) -> Answered {
+    faults::long_line(lines);
+    let at = put_long_line(out, now.at);
+    now.at = at;
+    now
+}
+
+fn of_line(mut now: Answered, lines: usize, line: &[u8], out: &mut [u8]) -> Answered {
+    let call = call_text::call_of(line);
+    let carried = carried_by(call);
+    match carried {
+        NOTHING => now,
+        NO_CALL => bad_line(now, lines, line, out),
+        _ => {
+            let at = put_keyword(line, out, now.at);
+            now.at = at;
+            of_call(carried, call, now, line, out)
+        }
+    }
+}
+
+// `lines` is the line's number.
+pub(crate) fn answer(now: Answered, lines: usize, line: &[u8], out: &mut [u8]) -> Answered {
+    if 65535 < line.len() {
+        return long_line(now, lines, out);
+    }
+    of_line(now, lines, line, out)
 }

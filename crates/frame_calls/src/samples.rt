@@ -5,76 +5,55 @@ use crate::text::put_run;
 use crate::text::put_two;
 use form_text::Part;
 use form_text::text;
-use frame::Frame;
 use runs::RunForm;
 
 fn run(
-    frame: Frame,
+    now: Answered,
     head: usize,
     form: RunForm,
     input: &[f32],
     output: &mut [f32],
-    line: &[u8],
     out: &mut [u8],
-    at: usize,
 ) -> Answered {
-    let answer = frame.run(head, form, input, output);
-    let next = answer.frame;
-    let to = put_run(line, answer.number, output, out, at);
-    Answered {
-        frame: next,
-        at: to,
-    }
+    let answer = now.frame.run(head, form, input, output);
+    let frame = answer.frame;
+    let at = put_run(answer.number, output, out, now.at);
+    Answered { frame, at }
 }
 
 pub(crate) fn of_run(
-    frame: Frame,
+    now: Answered,
     head: usize,
     form: RunForm,
     i: Part,
     o: Part,
     line: &[u8],
     out: &mut [u8],
-    at: usize,
 ) -> Answered {
     let mut input = [0.0f32; 1024];
     let mut output = [0.0f32; 1024];
     let n = digits::samples(text(line, i), &mut input);
     let m = digits::samples(text(line, o), &mut output);
-    run(
-        frame,
-        head,
-        form,
-        &input[..n],
-        &mut output[..m],
-        line,
-        out,
-        at,
-    )
+    run(now, head, form, &input[..n], &mut output[..m], out)
 }
 
 fn two(
-    frame: Frame,
+    now: Answered,
     head: usize,
     form: RunForm,
     input: &[f32],
     first: &mut [f32],
     second: &mut [f32],
-    line: &[u8],
     out: &mut [u8],
-    at: usize,
 ) -> Answered {
-    let answer = frame.run_two(head, form, input, first, second);
-    let next = answer.frame;
-    let to = put_two(line, answer.number, first, second, out, at);
-    Answered {
-        frame: next,
-        at: to,
-    }
+    let answer = now.frame.run_two(head, form, input, first, second);
+    let frame = answer.frame;
+    let at = put_two(answer.number, first, second, out, now.at);
+    Answered { frame, at }
 }
 
 pub(crate) fn of_two(
-    frame: Frame,
+    now: Answered,
     head: usize,
     form: RunForm,
     i: Part,
@@ -82,7 +61,6 @@ pub(crate) fn of_two(
     p: Part,
     line: &[u8],
     out: &mut [u8],
-    at: usize,
 ) -> Answered {
     let mut input = [0.0f32; 1024];
     let mut first = [0.0f32; 1024];
@@ -91,14 +69,12 @@ pub(crate) fn of_two(
     let m = digits::samples(text(line, o), &mut first);
     let k = digits::samples(text(line, p), &mut second);
     two(
-        frame,
+        now,
         head,
         form,
         &input[..n],
         &mut first[..m],
         &mut second[..k],
-        line,
         out,
-        at,
     )
 }

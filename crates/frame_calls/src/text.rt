@@ -1,4 +1,4 @@
-// The text of an answer: the line's keyword, the refusal's number, and what the call hands back.
+// The text of an answer: the line's keyword, which is put before the call is made, then the refusal's number and what the call hands back.
 
 use heads::Head;
 
@@ -6,22 +6,21 @@ fn wide(b: u8) -> usize {
     b as usize
 }
 
-fn number(n: usize, out: &mut [u8], at: usize) -> usize {
+pub(crate) fn number(n: usize, out: &mut [u8], at: usize) -> usize {
     let mut digits = [0u8; 20];
     let k = io::decimal(n as u64, &mut digits);
     digits::put(&digits[..k], out, at)
 }
 
-fn keyword(line: &[u8]) -> &[u8] {
+pub(crate) fn keyword(line: &[u8]) -> &[u8] {
     let end = bytes::scan::find(line, 0, line.len(), b' ');
     &line[0..end]
 }
 
-// The keyword, a space and the refusal's number.
-fn numbered(line: &[u8], refusal: u8, out: &mut [u8], at: usize) -> usize {
-    let a = digits::put(keyword(line), out, at);
-    let b = space(out, a);
-    number(wide(refusal), out, b)
+// A space and the refusal's number.
+fn numbered(refusal: u8, out: &mut [u8], at: usize) -> usize {
+    let a = space(out, at);
+    number(wide(refusal), out, a)
 }
 
 // A space and n, unless the call was refused.
@@ -47,6 +46,10 @@ fn ended(out: &mut [u8], at: usize) -> usize {
     digits::put(b"\n", out, at)
 }
 
+pub(crate) fn put_keyword(line: &[u8], out: &mut [u8], at: usize) -> usize {
+    digits::put(keyword(line), out, at)
+}
+
 pub(crate) fn put_bad_line(out: &mut [u8], at: usize) -> usize {
     digits::put(b"? bad line\n", out, at)
 }
@@ -56,19 +59,19 @@ pub(crate) fn put_long_line(out: &mut [u8], at: usize) -> usize {
 }
 
 // An answer that is nothing but the number.
-pub(crate) fn put_number(line: &[u8], refusal: u8, out: &mut [u8], at: usize) -> usize {
-    let a = numbered(line, refusal, out, at);
+pub(crate) fn put_number(refusal: u8, out: &mut [u8], at: usize) -> usize {
+    let a = numbered(refusal, out, at);
     ended(out, a)
 }
 
-pub(crate) fn put_mark(line: &[u8], refusal: u8, mark: usize, out: &mut [u8], at: usize) -> usize {
-    let a = numbered(line, refusal, out, at);
+pub(crate) fn put_mark(refusal: u8, mark: usize, out: &mut [u8], at: usize) -> usize {
+    let a = numbered(refusal, out, at);
     let b = counted(refusal, mark, out, a);
     ended(out, b)
 }
 
-pub(crate) fn put_head(line: &[u8], refusal: u8, head: Head, out: &mut [u8], at: usize) -> usize {
-    let a = numbered(line, refusal, out, at);
+pub(crate) fn put_head(refusal: u8, head: Head, out: &mut [u8], at: usize) -> usize {
+    let a = numbered(refusal, out, at);
     if refusal != 0 {
         return ended(out, a);
     }
@@ -77,48 +80,39 @@ pub(crate) fn put_head(line: &[u8], refusal: u8, head: Head, out: &mut [u8], at:
 }
 
 pub(crate) fn put_written(
-    line: &[u8],
     refusal: u8,
     length: usize,
     bytes: &[u8],
     out: &mut [u8],
     at: usize,
 ) -> usize {
-    let a = numbered(line, refusal, out, at);
+    let a = numbered(refusal, out, at);
     let b = counted(refusal, length, out, a);
     let c = space(out, b);
     let d = digits::put_bytes(bytes, out, c);
     ended(out, d)
 }
 
-pub(crate) fn put_part(line: &[u8], part: &[u8], out: &mut [u8], at: usize) -> usize {
-    let a = digits::put(keyword(line), out, at);
-    let b = space(out, a);
-    let c = digits::put_bytes(part, out, b);
-    ended(out, c)
+pub(crate) fn put_part(part: &[u8], out: &mut [u8], at: usize) -> usize {
+    let a = space(out, at);
+    let b = digits::put_bytes(part, out, a);
+    ended(out, b)
 }
 
-pub(crate) fn put_run(
-    line: &[u8],
-    refusal: u8,
-    output: &[f32],
-    out: &mut [u8],
-    at: usize,
-) -> usize {
-    let a = numbered(line, refusal, out, at);
+pub(crate) fn put_run(refusal: u8, output: &[f32], out: &mut [u8], at: usize) -> usize {
+    let a = numbered(refusal, out, at);
     let b = spaced(output, out, a);
     ended(out, b)
 }
 
 pub(crate) fn put_two(
-    line: &[u8],
     refusal: u8,
     first: &[f32],
     second: &[f32],
     out: &mut [u8],
     at: usize,
 ) -> usize {
-    let a = numbered(line, refusal, out, at);
+    let a = numbered(refusal, out, at);
     let b = spaced(first, out, a);
     let c = spaced(second, out, b);
     ended(out, c)

@@ -1,24 +1,26 @@
 use mathlib.Core.Path.{_≡_}
-use Prim.Native.Nat.{_≤_, _-_}
+use Prim.Native.Nat.{_≤_}
 use lib.ListN.{length}
 use borrow.Author.Needs.{needs}
-use Rattle.frame_calls.proofs.keep.Statement.{statement}
-use Rattle.frame_calls.proofs.keep.Tie as tie
+use Rattle.streams.proofs.read.Statement.{statement}
+use Rattle.streams.proofs.read.Tie as tie
 
 abbrev Inv-loop : tie.InvT-loop
-Inv-loop buffer₀ from end n i₀ buffer i = (length buffer ≡ length buffer₀) × (i ≤ n)
+Inv-loop fd buf₀ got₀ turns₀ buf got turns = (length buf ≡ length buf₀) × (got .count ≤ length buf₀)
 
 abbrev μ-loop : tie.MeasureT-loop
-μ-loop buffer₀ from end n i₀ buffer i = n - i
+μ-loop fd buf₀ got₀ turns₀ buf got turns = turns
 
-pub keep-spec : {M : Type 1} → statement M
-keep-spec =
+pub read-spec : {M : Type 1} → statement M
+read-spec =
     tie.close
     (tie.spec
     Inv-loop
     μ-loop
+    (λ c κs. search needs)
     (λ c. search needs)
-    (λ c. search needs)
+    (λ c κs. search needs)
+    (λ c κs. search needs)
     (λ c. search needs)
     (λ c. search needs)
     (λ c. search needs)

@@ -1,24 +1,24 @@
 use mathlib.Core.Path.{_≡_}
+use Prim.Native.Nat.{_≤_, _-_}
 use lib.ListN.{length}
 use borrow.Author.Needs.{needs}
-use Rattle.frame_calls.proofs.serve.Statement.{statement}
-use Rattle.frame_calls.proofs.serve.Tie as tie
+use Rattle.frame_calls.proofs.input.keep.Statement.{statement}
+use Rattle.frame_calls.proofs.input.keep.Tie as tie
 
 abbrev Inv-loop : tie.InvT-loop
-Inv-loop buffer₀ out₀ state₀ turns₀ buffer out state turns = (length buffer ≡ length buffer₀) × (length out ≡ length out₀)
+Inv-loop buffer₀ from end n i₀ buffer i = (length buffer ≡ length buffer₀) × (i ≤ n)
 
 abbrev μ-loop : tie.MeasureT-loop
-μ-loop buffer₀ out₀ state₀ turns₀ buffer out state turns = turns
+μ-loop buffer₀ from end n i₀ buffer i = n - i
 
-pub serve-spec : {M : Type 1} → statement M
-serve-spec =
+pub keep-spec : {M : Type 1} → statement M
+keep-spec =
     tie.close
     (tie.spec
     Inv-loop
     μ-loop
-    (λ c κs. search needs)
     (λ c. search needs)
-    (λ c κs. search needs)
+    (λ c. search needs)
     (λ c. search needs)
     (λ c. search needs)
     (λ c. search needs)

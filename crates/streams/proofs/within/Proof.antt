@@ -1,8 +1,8 @@
 use native.Mathlib.Nat.{le-of-lt, le-refl}
 use mathlib.Core.Path.{sym}
 use lib.Seq.{length-take-le}
-use Rattle.frame_calls.proofs.within.Statement.{statement}
-use Rattle.frame_calls.proofs.within.Tie as tie
+use Rattle.streams.proofs.within.Statement.{statement}
+use Rattle.streams.proofs.within.Tie as tie
 
 returns : tie.Need-returns
 returns c = let l = le-of-lt (c .if1 .taken) in (l, sym (length-take-le _ _ l))
