@@ -18,32 +18,38 @@ use call_text::keyword::LOAD;
 use call_text::keyword::MARK;
 use call_text::keyword::OPEN;
 use call_text::keyword::REST;
-use form_text::Part;
 use form_text::text;
 use frame::Answer;
 use frame::Frame;
 
-// What a line carries behind its keyword.
-const NOTHING: usize = 0;
+// The shapes of a call, by number: a `match` on a number is cheaper to prove than one that takes the call apart with the frame at hand, so
+// that each shape's own function does that.
+const SILENT: usize = 0;
 
-const NO_CALL: usize = 1;
+const BAD_LINE: usize = 1;
 
-const NUMBERS: usize = 2;
+const OF_HEAD: usize = 2;
 
-const SHEET: usize = 3;
+const OF_HEAD_NUMBER: usize = 3;
 
-const SAMPLES: usize = 4;
+const OF_BYTES: usize = 4;
 
-fn carried_by(call: Call) -> usize {
+const OF_BYTES_NUMBER: usize = 5;
+
+const OF_RUN: usize = 6;
+
+const OF_TWO: usize = 7;
+
+fn shape_of(call: Call) -> usize {
     match call {
-        Call::Silent => NOTHING,
-        Call::BadLine => NO_CALL,
-        Call::OfHead(_, _) => NUMBERS,
-        Call::OfHeadNumber(_, _, _) => NUMBERS,
-        Call::OfBytes(_, _) => SHEET,
-        Call::OfBytesNumber(_, _, _) => SHEET,
-        Call::OfRun(_, _, _, _) => SAMPLES,
-        Call::OfTwo(_, _, _, _, _) => SAMPLES,
+        Call::Silent => SILENT,
+        Call::BadLine => BAD_LINE,
+        Call::OfHead(_, _) => OF_HEAD,
+        Call::OfHeadNumber(_, _, _) => OF_HEAD_NUMBER,
+        Call::OfBytes(_, _) => OF_BYTES,
+        Call::OfBytesNumber(_, _, _) => OF_BYTES_NUMBER,
+        Call::OfRun(_, _, _, _) => OF_RUN,
+        Call::OfTwo(_, _, _, _, _) => OF_TWO,
     }
 }
 
@@ -73,7 +79,10 @@ fn head(now: Answered, head: usize, out: &mut [u8]) -> Answered {
     Answered { frame, at }
 }
 
-fn of_head(keyword: usize, now: Answered, h: usize, out: &mut [u8]) -> Answered {
+fn of_head(call: Call, now: Answered, out: &mut [u8]) -> Answered {
+    let Call::OfHead(keyword, h) = call else {
+        return now;
+    };
     match keyword {
         REST => plain(now.frame.rest(h), out, now.at),
         MARK => mark(now, h, out),
@@ -89,13 +98,10 @@ fn head_number(keyword: usize, frame: Frame, head: usize, n: usize) -> Answer {
     }
 }
 
-fn of_head_number(
-    keyword: usize,
-    now: Answered,
-    head: usize,
-    n: usize,
-    out: &mut [u8],
-) -> Answered {
+fn of_head_number(call: Call, now: Answered, out: &mut [u8]) -> Answered {
+    let Call::OfHeadNumber(keyword, head, n) = call else {
+        return now;
+    };
     plain(head_number(keyword, now.frame, head, n), out, now.at)
 }
 
@@ -113,7 +119,10 @@ fn with_bytes(keyword: usize, now: Answered, bytes: &mut [u8], out: &mut [u8]) -
     }
 }
 
-fn of_bytes(keyword: usize, now: Answered, part: Part, line: &[u8], out: &mut [u8]) -> Answered {
+fn of_bytes(call: Call, now: Answered, line: &[u8], out: &mut [u8]) -> Answered {
+    let Call::OfBytes(keyword, part) = call else {
+        return now;
+    };
     let mut bytes = [0u8; 4096];
     let n = digits::bytes(text(line, part), &mut bytes);
     with_bytes(keyword, now, &mut bytes[..n], out)
@@ -126,14 +135,10 @@ fn with_sheet(keyword: usize, sheet: &[u8], entry: usize, out: &mut [u8], at: us
     }
 }
 
-fn of_bytes_number(
-    keyword: usize,
-    mut now: Answered,
-    part: Part,
-    entry: usize,
-    line: &[u8],
-    out: &mut [u8],
-) -> Answered {
+fn of_bytes_number(call: Call, mut now: Answered, line: &[u8], out: &mut [u8]) -> Answered {
+    let Call::OfBytesNumber(keyword, part, entry) = call else {
+        return now;
+    };
     let mut bytes = [0u8; 4096];
     let n = digits::bytes(text(line, part), &mut bytes);
     let at = with_sheet(keyword, &bytes[..n], entry, out, now.at);
@@ -141,36 +146,14 @@ fn of_bytes_number(
     now
 }
 
-fn of_sheet(call: Call, now: Answered, line: &[u8], out: &mut [u8]) -> Answered {
-    match call {
-        Call::OfBytes(k, b) => of_bytes(k, now, b, line, out),
-        Call::OfBytesNumber(k, b, n) => of_bytes_number(k, now, b, n, line, out),
-        _ => now,
-    }
-}
-
-fn of_numbers(call: Call, now: Answered, out: &mut [u8]) -> Answered {
-    match call {
-        Call::OfHead(k, h) => of_head(k, now, h, out),
-        Call::OfHeadNumber(k, h, n) => of_head_number(k, now, h, n, out),
-        _ => now,
-    }
-}
-
-fn of_samples(call: Call, now: Answered, line: &[u8], out: &mut [u8]) -> Answered {
-    match call {
-        Call::OfRun(h, form, i, o) => of_run(now, h, form, i, o, line, out),
-        Call::OfTwo(h, form, i, o, p) => of_two(now, h, form, i, o, p, line, out),
-        _ => now,
-    }
-}
-
-// A function for what a line carries, and not an arm of one function for each call: a proof grows with the arms beside it.
-fn of_call(carried: usize, call: Call, now: Answered, line: &[u8], out: &mut [u8]) -> Answered {
-    match carried {
-        NUMBERS => of_numbers(call, now, out),
-        SHEET => of_sheet(call, now, line, out),
-        _ => of_samples(call, now, line, out),
+fn of_call(shape: usize, call: Call, now: Answered, line: &[u8], out: &mut [u8]) -> Answered {
+    match shape {
+        OF_HEAD => of_head(call, now, out),
+        OF_HEAD_NUMBER => of_head_number(call, now, out),
+        OF_BYTES => of_bytes(call, now, line, out),
+        OF_BYTES_NUMBER => of_bytes_number(call, now, line, out),
+        OF_RUN => of_run(call, now, line, out),
+        _ => of_two(call, now, line, out),
     }
 }
 
@@ -190,14 +173,14 @@ fn long_line(mut now: Answered, lines: usize, out: &mut [u8]) -> Answered {
 
 fn of_line(mut now: Answered, lines: usize, line: &[u8], out: &mut [u8]) -> Answered {
     let call = call_text::call_of(line);
-    let carried = carried_by(call);
-    match carried {
-        NOTHING => now,
-        NO_CALL => bad_line(now, lines, line, out),
+    let shape = shape_of(call);
+    match shape {
+        SILENT => now,
+        BAD_LINE => bad_line(now, lines, line, out),
         _ => {
             let at = put_keyword(line, out, now.at);
             now.at = at;
-            of_call(carried, call, now, line, out)
+            of_call(shape, call, now, line, out)
         }
     }
 }

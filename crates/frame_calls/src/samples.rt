@@ -3,7 +3,7 @@
 use crate::answers::Answered;
 use crate::text::put_run;
 use crate::text::put_two;
-use form_text::Part;
+use call_text::Call;
 use form_text::text;
 use runs::RunForm;
 
@@ -21,15 +21,10 @@ fn run(
     Answered { frame, at }
 }
 
-pub(crate) fn of_run(
-    now: Answered,
-    head: usize,
-    form: RunForm,
-    i: Part,
-    o: Part,
-    line: &[u8],
-    out: &mut [u8],
-) -> Answered {
+pub(crate) fn of_run(call: Call, now: Answered, line: &[u8], out: &mut [u8]) -> Answered {
+    let Call::OfRun(head, form, i, o) = call else {
+        return now;
+    };
     let mut input = [0.0f32; 1024];
     let mut output = [0.0f32; 1024];
     let n = digits::samples(text(line, i), &mut input);
@@ -52,16 +47,10 @@ fn two(
     Answered { frame, at }
 }
 
-pub(crate) fn of_two(
-    now: Answered,
-    head: usize,
-    form: RunForm,
-    i: Part,
-    o: Part,
-    p: Part,
-    line: &[u8],
-    out: &mut [u8],
-) -> Answered {
+pub(crate) fn of_two(call: Call, now: Answered, line: &[u8], out: &mut [u8]) -> Answered {
+    let Call::OfTwo(head, form, i, o, p) = call else {
+        return now;
+    };
     let mut input = [0.0f32; 1024];
     let mut first = [0.0f32; 1024];
     let mut second = [0.0f32; 1024];

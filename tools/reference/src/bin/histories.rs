@@ -67,6 +67,10 @@ impl Comparison {
                     eprintln!("histories: frame_calls ended with {} on {one}", ran.status);
                     exit(1);
                 }
+                if !each_said(&ran.stdout, &ran.stderr) {
+                    eprintln!("histories: frame_calls does not say what is wrong with each bad line of {one}");
+                    exit(1);
+                }
                 ran.stdout
             })
             .collect();
@@ -99,6 +103,17 @@ impl Comparison {
             self.compare(&batch);
         }
     }
+}
+
+// Whether standard error has a line for each answer that is none of the frame's, and no other.
+fn each_said(answers: &[u8], said: &[u8]) -> bool {
+    let lines = |text: &[u8], begin: &[u8]| {
+        text.split(|b| *b == b'\n')
+            .filter(|line| line.starts_with(begin))
+            .count()
+    };
+    let faults = lines(said, b"frame_calls: line ");
+    faults == lines(answers, b"? ") && faults == lines(said, b"f")
 }
 
 // Says where the first difference is, and keeps the history.
