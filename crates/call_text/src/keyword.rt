@@ -39,7 +39,8 @@ pub(crate) enum Shape {
     NoShape,
 }
 
-pub(crate) fn number_of(s: &[u8]) -> usize
+// What is no keyword has the number behind the last.
+pub fn number_of(s: &[u8]) -> usize
     ensures { λ r. ⌜ r ≡ keywordOf (now (s .entry)) ⌝ }
 {
     form_text::name_index(

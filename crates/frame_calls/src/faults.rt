@@ -3,18 +3,12 @@
 
 use crate::text::keyword;
 use crate::text::number;
+use call_text::keyword::number_of;
 use libc::STDERR_FILENO;
 
-// The keywords that call_text knows. `?` is none of them, and so has the number behind the last.
+// `?` is no keyword, and so has the number behind the last.
 fn is_call(word: &[u8]) -> bool {
-    keyword_number(word) < keyword_number(b"?")
-}
-
-fn keyword_number(word: &[u8]) -> usize {
-    form_text::name_index(
-        word,
-        b"open load run two rest mark back drop write check lookup head",
-    )
+    number_of(word) < number_of(b"?")
 }
 
 fn ends_in_return(line: &[u8]) -> bool {
