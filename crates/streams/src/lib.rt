@@ -21,7 +21,8 @@ pub fn within(n: usize, buf: &[u8]) -> usize
     if n < buf.len() { n } else { buf.len() }
 }
 
-// Waits for a millisecond, so that waiting costs no processor time. A reference to a struct is proved by hand, so this is all there is in it.
+// Waits for a millisecond: a loop that only tries again would take a whole processor. A reference to a struct is proved by hand, so that
+// nothing else is in this function.
 fn pause() {
     let asked = timespec {
         tv_sec: 0,
