@@ -1,8 +1,8 @@
 // 100,000 runs of 256 samples by the Svf called alone: what cost_of_frame is held against.
 
-use filter_core::FilterMode;
-use filter_core::FrequencyApproximation;
-use svf::Svf;
+use filters::FilterMode;
+use filters::FrequencyApproximation;
+use filters::Svf;
 
 fn main() {
     let input = [1.0f32; 256];

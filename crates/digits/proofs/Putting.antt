@@ -12,7 +12,7 @@ use lib.Seq.{take-all, length-take-le}
 use Rattle.lists.specs.Table.{table}
 use Rattle.lists.proofs.Over.{length-over, over-none, over-behind, Copied, copy-start, copy-again, copy-done}
 use Rattle.lists.proofs.Tables.{length-table, getD-table}
-use Rattle.digits.specs.Place.{Puts}
+use Rattle.lists.specs.Over.{Puts}
 use Rattle.digits.specs.Text.{glyphOf, wordText, spelled, orDash}
 
 module _ {A : Type 0} where

@@ -4,7 +4,8 @@ ghost use mathlib.Core.Path.{_≡_};
 ghost use Prim.Native.Nat.{_<_};
 ghost use lib.Ieee.{binary32, ofBits};
 ghost use Rattle.digits.specs.Hex.{hexDigit, allHex, pairOf, byteFrom, hexWord, bytesOf, samplesOf};
-ghost use Rattle.digits.specs.Place.{Puts, Counts};
+ghost use Rattle.lists.specs.Over.{Puts};
+ghost use Rattle.digits.specs.Place.{Counts};
 
 // 16 for a byte that is no digit.
 fn digit(b: u8) -> u8

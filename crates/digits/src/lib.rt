@@ -9,7 +9,7 @@ pub use hex::all_hex;
 pub use hex::bytes;
 pub use hex::sample;
 pub use hex::samples;
-pub use output::put;
+pub use lists::put;
 pub use output::put_bytes;
 pub use output::put_samples;
 pub use output::put_word;

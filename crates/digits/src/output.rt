@@ -3,18 +3,9 @@
 ghost use mathlib.Core.Path.{_≡_};
 ghost use Prim.Native.Nat.{_<_};
 ghost use lib.Ieee.{binary32, toBits};
-ghost use Rattle.digits.specs.Place.{Puts};
+ghost use Rattle.lists.specs.Over.{Puts};
 ghost use Rattle.digits.specs.Text.{glyphOf, byteText, wordText, bytesText, samplesText};
-
-pub fn put(text: &[u8], out: &mut [u8], at: usize) -> usize
-    ensures { λ r. ⌜ Puts at (now (text .entry)) (now (out .entry)) r (now (out .exit)) ⌝ }
-{
-    lists::copy(text, out, at);
-    if out.len() <= at {
-        return at;
-    }
-    at + filter_core::shortest(text.len(), out.len() - at)
-}
+use lists::put;
 
 fn glyph(d: u32) -> u8
     requires { ⌜ d < 16 ⌝ }

@@ -1,7 +1,7 @@
 // Bytes written over others. specs/ and proofs/ also have tables, the lists of a function's first values, for the crates that speak of them.
 
 ghost use mathlib.Core.Path.{_≡_};
-ghost use Rattle.lists.specs.Over.{over};
+ghost use Rattle.lists.specs.Over.{over, Puts};
 
 // The source into the output from the place `at` on. What has no room is left out, so a place past the end takes nothing.
 pub fn copy(source: &[u8], output: &mut [u8], at: usize)
@@ -16,4 +16,15 @@ pub fn copy(source: &[u8], output: &mut [u8], at: usize)
         output[at + i] = source[i];
         i += 1;
     }
+}
+
+// The same, and answers the place behind.
+pub fn put(source: &[u8], output: &mut [u8], at: usize) -> usize
+    ensures { λ r. ⌜ Puts at (now (source .entry)) (now (output .entry)) r (now (output .exit)) ⌝ }
+{
+    copy(source, output, at);
+    if output.len() <= at {
+        return at;
+    }
+    at + filter_core::shortest(source.len(), output.len() - at)
 }

@@ -1,10 +1,10 @@
 // Smooths the outline of a motif. Each coordinate goes through a low-pass filter of its own; a line is printed for each point, as it was
 // drawn, as it became and how far it moved, in thousandths.
 
-use filters::FilterMode;
-use filters::FrequencyApproximation;
-use filters::Svf;
+use filter_core::FilterMode;
+use filter_core::FrequencyApproximation;
 use libc::STDOUT_FILENO;
+use svf::Svf;
 
 // A jagged leaf, whose last point is followed by its first.
 const LEAF_X: [f32; 16] = [
@@ -76,22 +76,22 @@ fn smooth(line: &[f32; 16], out: &mut [f32; 16]) {
 }
 
 fn put_heading(out: &mut [u8]) -> usize {
-    let a = digits::put(
+    let a = lists::put(
         b"A leaf as drawn and as smoothed, in thousandths of a stitch unit. A low-pass filter\n",
         out,
         0,
     );
-    let b = digits::put(
+    let b = lists::put(
         b"for each coordinate takes the jags out; it knows only the points before, so that the\n",
         out,
         a,
     );
-    let c = digits::put(
+    let c = lists::put(
         b"smoothed outline lags a point or two behind: that is why every point moved.\n\n",
         out,
         b,
     );
-    digits::put(
+    lists::put(
         b"    point  drawn x        y smooth x        y  moved x        y\n",
         out,
         c,
@@ -128,7 +128,7 @@ fn put_point(
     let b = put_pair(x, y, out, a);
     let c = put_pair(smooth_x, smooth_y, out, b);
     let d = put_pair(smooth_x - x, smooth_y - y, out, c);
-    digits::put(b"\n", out, d)
+    lists::put(b"\n", out, d)
 }
 
 fn put_pair(x: f32, y: f32, out: &mut [u8], at: usize) -> usize {
@@ -150,7 +150,7 @@ fn put_number(negative: bool, n: u64, out: &mut [u8], at: usize) -> usize {
     let k = io::decimal(n, &mut digits);
     let a = put_space(k, out, at);
     let b = put_sign(negative, out, a);
-    digits::put(&digits[..k], out, b)
+    lists::put(&digits[..k], out, b)
 }
 
 // The space before a sign and k digits.
@@ -159,14 +159,14 @@ fn put_space(k: usize, out: &mut [u8], at: usize) -> usize {
         return at;
     }
     let space: &[u8] = b"        ";
-    digits::put(&space[k..], out, at)
+    lists::put(&space[k..], out, at)
 }
 
 fn put_sign(negative: bool, out: &mut [u8], at: usize) -> usize {
     if negative {
-        return digits::put(b"-", out, at);
+        return lists::put(b"-", out, at);
     }
-    digits::put(b" ", out, at)
+    lists::put(b" ", out, at)
 }
 
 // The nearest number of thousandths; 0 where that is no u64.

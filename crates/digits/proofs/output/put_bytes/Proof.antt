@@ -1,6 +1,6 @@
 use Prim.Native.Nat.{_≤_, _-_}
 use lib.ListN.{length, take}
-use Rattle.digits.specs.Place.{Puts}
+use Rattle.lists.specs.Over.{Puts}
 use Rattle.digits.specs.Text.{byteText, spelled}
 use Rattle.digits.proofs.Putting.{putting}
 use Rattle.digits.proofs.output.put_bytes.Statement.{statement}

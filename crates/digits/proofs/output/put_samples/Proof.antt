@@ -1,7 +1,7 @@
 use lib.Ieee.{binary32, toBits}
 use Prim.Native.Nat.{_≤_, _-_}
 use lib.ListN.{length, take}
-use Rattle.digits.specs.Place.{Puts}
+use Rattle.lists.specs.Over.{Puts}
 use Rattle.digits.specs.Text.{wordText, spelled}
 use Rattle.digits.proofs.Putting.{putting}
 use Rattle.digits.proofs.output.put_samples.Statement.{statement}
