@@ -1,6 +1,6 @@
 /*
  * The six filters of filter.rs, proved in Rattle, for C on x86-64 with the System V ABI, as on Linux. Link
- * target/staticlib/libfilter_exports.a, which `rt staticlib filter_exports` proves and writes.
+ * target/staticlib/libfilter_exports.a, which `tools/archive` proves and writes.
  *
  * A filter is an array of floats, its fields, in the order that its group below names. `_new` writes a fresh one. Every call reads and
  * writes the arrays that it is lent and keeps nothing else.
@@ -39,7 +39,7 @@ extern "C" {
 enum {
     MOTIF_OK = 0,
     MOTIF_STEP = 10,      /* a stride or a decimation of 0 */
-    MOTIF_FREQUENCY = 11, /* MOTIF_EXACT with a frequency below 0 */
+    MOTIF_FREQUENCY = 11, /* MOTIF_EXACT with a frequency below 0; -0.0 and a NaN are not below */
     MOTIF_UNKNOWN = 100   /* a number that names no mode, or no approximation */
 };
 
@@ -51,7 +51,8 @@ enum {
     MOTIF_HIGH_PASS = 3
 };
 
-/* An approximation: how a frequency, as a part of the sampling rate, becomes a coefficient. */
+/* An approximation: how a frequency, as a part of the sampling rate, becomes a coefficient. MOTIF_EXACT clips it at 0.497, and takes a NaN
+ * for that; naive_svf_set_f_q clips it at 0.158 in the three others. */
 enum {
     MOTIF_EXACT = 0,
     MOTIF_ACCURATE = 1,
@@ -189,7 +190,7 @@ void modified_svf_init(float state[5]);
 /* Clears lp and bp, but not x. */
 void modified_svf_reset(float state[5]);
 
-/* Sets f and fq and clears x. */
+/* Sets f and fq and clears x. They are coefficients: for a frequency p, 2 sin (pi p), and that over the resonance. */
 void modified_svf_set_f_fq(float state[5], float f, float fq);
 
 /* A buffer of samples. Refused: MOTIF_UNKNOWN. */
@@ -206,7 +207,7 @@ void crossover_svf_init(float state[8]);
 /* Clears x, lp and bp. */
 void crossover_svf_reset(float state[8]);
 
-/* Sets f and fq; x stays. */
+/* Sets f and fq, coefficients as those of modified_svf_set_f_fq; x stays. */
 void crossover_svf_set_f_fq(float state[8], float f, float fq);
 
 /* A buffer of samples. Refused: MOTIF_UNKNOWN. */

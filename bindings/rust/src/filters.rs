@@ -670,7 +670,8 @@ impl ModifiedSvf {
         unsafe { ffi::modified_svf_reset(self.state()) }
     }
 
-    /// Sets the coefficients and clears the last sample.
+    /// Sets the coefficients and clears the last sample. For a frequency φ, as a part of the sampling rate, f is 2 sin (π φ), and fq is f
+    /// over the resonance.
     #[inline]
     pub fn set_f_fq(&mut self, f: f32, fq: f32) {
         unsafe { ffi::modified_svf_set_f_fq(self.state(), f, fq) }
@@ -756,7 +757,7 @@ impl CrossoverSvf {
         unsafe { ffi::crossover_svf_reset(self.state()) }
     }
 
-    /// Sets the coefficients; the last samples stay.
+    /// Sets the coefficients, which are as those of [`ModifiedSvf::set_f_fq`]; the last samples stay.
     #[inline]
     pub fn set_f_fq(&mut self, f: f32, fq: f32) {
         unsafe { ffi::crossover_svf_set_f_fq(self.state(), f, fq) }

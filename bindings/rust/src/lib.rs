@@ -1,5 +1,6 @@
 //! Zero-delay-feedback filters (one pole and SVF), the naive and the modified Chamberlin SVF, a crossover of two passes, and a DC blocker:
-//! the types and methods of `filter.rs`, by functions that are proved to compute the source's equations bit for bit.
+//! the types and methods of `filter.rs`, by functions that are proved to compute the source's equations bit for bit. Only `Exact` differs from
+//! the source, in the last bits: it is a series here, and the platform's `tan` or `sin` there.
 //!
 //! Code that is written for `filter.rs` compiles as it is with `use motif_filters::filter::..` in the place of its `use` line: the module
 //! [`filter`] has the source's signatures, and panics where a call is refused. At the top of the crate the six calls that can be refused

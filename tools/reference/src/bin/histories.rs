@@ -1,5 +1,5 @@
 //! Gives histories to frame_calls and to the reference, and compares what they write byte for byte.
-//! `histories random --seed N --calls N --lines N`, `histories short LENGTH`, `histories sheets`, `histories sample`.
+//! `histories random --seed N --calls N --lines N`, `histories short --length N`, `histories sheets`, `histories sample`.
 //! A history gets a program of its own; the reference gets many, with `# fresh frame` between.
 
 use reference::counts::Counts;
