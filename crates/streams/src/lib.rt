@@ -1,14 +1,16 @@
 // Reading and writing by a descriptor that may not be ready: a call that would block (EAGAIN), or that a signal broke off (EINTR), is made
 // again. Any other failure is handed to the caller at once, while errno still tells of it.
 // The loops count their turns down, since nothing says that a descriptor is ever ready, from a number that no run uses up.
-ghost use Prim.Native.Nat.{_≤_};
+ghost use Prim.Native.Nat.{_≤_, min};
+ghost use mathlib.Core.Path.{_≡_};
+ghost use lib.Dec.{T};
 ghost use lib.ListN.{length};
 ghost use Rattle.io.specs.Counts.{Counts};
 use libc::EAGAIN;
 use libc::EINTR;
 use libc::types::timespec;
 
-// What a read came to: how many bytes stand at the start of the buffer, none at the end of the input.
+// What a read came to: how many bytes stand at the start of the buffer, none at the end of the input and where it failed.
 pub struct Got {
     pub count: usize,
     pub failed: bool,
@@ -17,6 +19,7 @@ pub struct Got {
 // n, or buf's length where that is less.
 pub fn within(n: usize, buf: &[u8]) -> usize
     ensures { λ r. ⌜ Counts r (now (buf .entry)) ⌝ }
+    ensures { λ r. ⌜ r ≡ min n (length (now (buf .entry))) ⌝ }
 {
     if n < buf.len() { n } else { buf.len() }
 }
@@ -47,17 +50,25 @@ fn again() -> bool {
 
 fn read_once(fd: i32, buf: &mut [u8]) -> Got
     ensures { λ r. ⌜ r .count ≤ length (now (buf .entry)) ⌝ }
+    ensures { λ r. ⌜ (T (r .failed) → r .count ≡ 0) ⌝ }
 {
     let got = libc::read(fd, buf);
+    if got < 0 {
+        return Got {
+            count: 0,
+            failed: true,
+        };
+    }
     Got {
         count: io::count(got, buf),
-        failed: got < 0,
+        failed: false,
     }
 }
 
 // Reads once, but waits until there is something to read, the input ends or the read fails.
 pub fn read(fd: i32, buf: &mut [u8]) -> Got
     ensures { λ r. ⌜ r .count ≤ length (now (buf .entry)) ⌝ }
+    ensures { λ r. ⌜ (T (r .failed) → r .count ≡ 0) ⌝ }
 {
     let mut got = read_once(fd, buf);
     let mut turns = u64::MAX;
