@@ -6,6 +6,7 @@ use crate::samples::of_two;
 use crate::text::put_bad_line;
 use crate::text::put_head;
 use crate::text::put_keyword;
+use crate::text::put_long_line;
 use crate::text::put_mark;
 use crate::text::put_number;
 use crate::text::put_part;
@@ -163,8 +164,14 @@ fn bad_line(mut now: Answered, lines: usize, line: &[u8], out: &mut [u8]) -> Ans
     now
 }
 
-// `lines` is the line's number.
-pub(crate) fn answer(mut now: Answered, lines: usize, line: &[u8], out: &mut [u8]) -> Answered {
+fn long_line(mut now: Answered, lines: usize, out: &mut [u8]) -> Answered {
+    faults::long_line(lines);
+    let at = put_long_line(out, now.at);
+    now.at = at;
+    now
+}
+
+fn of_line(mut now: Answered, lines: usize, line: &[u8], out: &mut [u8]) -> Answered {
     let call = call_text::call_of(line);
     let shape = shape_of(call);
     match shape {
@@ -176,4 +183,12 @@ pub(crate) fn answer(mut now: Answered, lines: usize, line: &[u8], out: &mut [u8
             of_call(shape, call, now, line, out)
         }
     }
+}
+
+// `lines` is the line's number.
+pub(crate) fn answer(now: Answered, lines: usize, line: &[u8], out: &mut [u8]) -> Answered {
+    if 65535 < line.len() {
+        return long_line(now, lines, out);
+    }
+    of_line(now, lines, line, out)
 }

@@ -10,8 +10,8 @@ mod samples;
 mod shown;
 mod text;
 
-// The input has room for a line of the greatest length and its line feed, and no more: a longer line never stands whole in it, and is told
-// by a buffer that is full. The output has room for the answers that wait and one more, the longest of which takes less than 32,768 bytes.
+// The input has room for a line of the greatest length and its line feed, the output for the answers that wait and one more, the longest of
+// which takes less than 32,768 bytes.
 fn main() {
     if os::arg_count() > 1 {
         help::print();
