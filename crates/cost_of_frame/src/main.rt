@@ -1,26 +1,173 @@
-// 100,000 runs of 256 samples by the Svf of a head: what a call of the frame costs beside cost_of_filter.
+// 48,000 samples through a head of the frame, timed: one of the sides of `tools/bench --svf`, which starts this program and talks to it in
+// bytes, low byte first. It is sent the length of a run and the mode, a word each, a sheet of one entry and the samples. For each byte that
+// comes then, it loads the entry into a head, runs the samples through the head's filter and answers how many nanoseconds the runs
+// took, the eight numbers of the filter and the outputs, a word each. The byte 1 has the outputs cleared before, outside of the time; else
+// they are what the runs before wrote.
 
-use filter_core::FilterMode;
+ghost use Prim.Native.Nat.{_<_, _≤_};
+use filters::FilterMode;
 use frame::Frame;
+use heads::Head;
+use heads::Slot;
+use libc::STDIN_FILENO;
+use libc::STDOUT_FILENO;
 use runs::RunForm;
 
-// One entry of kind 3, an Svf: Exact, f 0.1, resonance 2.
-const SHEET: [u8; 15] = [1, 0, 3, 0xcd, 0xcc, 0xcc, 0x3d, 0, 0, 0, 0x40, 0, 0, 0, 0];
+// Where the mode and the sheet stand, and where the samples begin and end.
+const MODE: usize = 4;
+
+const SHEET: usize = 8;
+
+const SAMPLES: usize = 23;
+
+const END: usize = 192023;
 
 fn main() {
-    let sheet = SHEET;
-    let input = [1.0f32; 256];
-    let mut out = [0.0f32; 256];
-    let opened = Frame::fresh().open(&sheet);
-    let library = opened.frame;
-    let loaded = library.load(0, 0);
-    let mut frame = loaded.frame;
-    let mut run = 0usize;
-    while run < 100000 {
-        let ran = frame.run(0, RunForm::Plain(FilterMode::LowPass), &input, &mut out);
-        frame = ran.frame;
-        run += 1;
+    let mut sent = [0u8; 192023];
+    if io::read_full(STDIN_FILENO, &mut sent) < END {
+        io::write_all(
+            STDOUT_FILENO,
+            b"cost_of_frame: times the samples that tools/bench --svf sends it\n",
+        );
+        return;
     }
-    io::print_hex(1, words::f32_to_word(out[255]) as u64, 8);
-    io::write_all(1, b"\n");
+    let mut input = [0.0f32; 48000];
+    samples(&sent, &mut input);
+    let library = Frame::fresh().open(&sent[SHEET..SAMPLES]);
+    let mut out = [0.0f32; 48000];
+    let mode = filter_fields::mode_of(words::word_at(&sent, MODE));
+    serve(library.frame, mode, run_length(&sent), &input, &mut out);
+}
+
+fn samples(sent: &[u8], input: &mut [f32]) {
+    let n = filter_core::shortest(input.len(), 48000);
+    let mut i = 0usize;
+    while i < n {
+        input[i] = words::word_to_f32(words::word_at(sent, SAMPLES + 4 * i));
+        i += 1;
+    }
+}
+
+// A run of no samples would never end.
+fn run_length(sent: &[u8; 192023]) -> usize
+    ensures { λ r. ⌜ 0 < r ⌝ }
+{
+    let n = words::word_at(sent, 0) as usize;
+    if n == 0 { 1 } else { n }
+}
+
+// A proved loop has to end, and nothing says that the turns do. So the loop counts down, from a number that nothing uses up.
+fn serve(library: Frame, mode: FilterMode, length: usize, input: &[f32], out: &mut [f32])
+    requires { ⌜ 0 < length ⌝ }
+{
+    let mut turn = [0u8; 1];
+    let mut turns = u64::MAX;
+    while turns > 0 && io::read_full(STDIN_FILENO, &mut turn) == 1 {
+        prepare(turn[0], out);
+        take_turn(library, mode, length, input, out);
+        turns -= 1;
+    }
+}
+
+// Clears the outputs, if the turn has them cleared.
+fn prepare(turn: u8, out: &mut [f32]) {
+    if turn != 1 {
+        return;
+    }
+    let mut i = 0usize;
+    while i < out.len() {
+        out[i] = 0.0;
+        i += 1;
+    }
+}
+
+fn take_turn(library: Frame, mode: FilterMode, length: usize, input: &[f32], out: &mut [f32])
+    requires { ⌜ 0 < length ⌝ }
+{
+    let loaded = library.load(0, 0);
+    let before = microseconds(libc::clock());
+    let frame = run_all(loaded.frame, mode, length, input, out);
+    let after = microseconds(libc::clock());
+    let shown = frame.show(0);
+    answer(nanoseconds(before, after), shown.head, out);
+}
+
+// Where a run from `at` on ends, of n samples.
+fn run_end(at: usize, length: usize, n: usize) -> usize
+    requires { ⌜ at < n ⌝ }
+    requires { ⌜ 0 < length ⌝ }
+    ensures { λ r. ⌜ (at < r) × (r ≤ n) ⌝ }
+{
+    if length < n - at { at + length } else { n }
+}
+
+fn run_all(loaded: Frame, mode: FilterMode, length: usize, input: &[f32], out: &mut [f32]) -> Frame
+    requires { ⌜ 0 < length ⌝ }
+{
+    let n = filter_core::shortest(input.len(), out.len());
+    let mut frame = loaded;
+    let mut at = 0usize;
+    while at < n {
+        let end = run_end(at, length, n);
+        let ran = frame.run(0, RunForm::Plain(mode), &input[at..end], &mut out[at..]);
+        frame = ran.frame;
+        at = end;
+    }
+    frame
+}
+
+// 0 where the clock cannot be read.
+fn microseconds(t: i64) -> u64 {
+    if t > 0 { t as u64 } else { 0 }
+}
+
+// What has passed, if it is no more than a word holds.
+fn nanoseconds(before: u64, after: u64) -> u32 {
+    if after < before {
+        return 0;
+    }
+    let passed = after - before;
+    if passed < 4000000 {
+        passed as u32 * 1000
+    } else {
+        4000000000
+    }
+}
+
+fn answer(time: u32, head: Head, out: &[f32]) {
+    let mut text = [0u8; 192036];
+    let numbers = fields(head);
+    let a = put_word(time, &mut text, 0);
+    let b = put_words(&numbers, &mut text, a);
+    put_words(out, &mut text, b);
+    io::write_all(STDOUT_FILENO, &text);
+}
+
+fn fields(head: Head) -> [f32; 8] {
+    let now = head.now;
+    let slot = now.slot;
+    match slot {
+        Slot::Empty => [0.0; 8],
+        Slot::Holds(f) => f.fields(),
+    }
+}
+
+fn put_words(from: &[f32], text: &mut [u8], at: usize) -> usize {
+    let mut to = at;
+    let mut i = 0usize;
+    while i < from.len() {
+        to = put_word(words::f32_to_word(from[i]), text, to);
+        i += 1;
+    }
+    to
+}
+
+fn put_word(w: u32, text: &mut [u8], at: usize) -> usize {
+    let bytes = [
+        (w % 256) as u8,
+        (w / 256 % 256) as u8,
+        (w / 65536 % 256) as u8,
+        (w / 16777216) as u8,
+    ];
+    lists::put(&bytes, text, at)
 }
