@@ -1,11 +1,14 @@
-// 48,000 samples through a head of the frame, timed: one of the sides of `tools/bench --svf`, which starts this program and talks to it in
-// bytes, low byte first. It is sent the length of a run and the mode, a word each, a sheet of one entry and the samples. For each byte that
-// comes then, it loads the entry into a head, runs the samples through the head's filter and answers how many nanoseconds the runs
-// took, the eight numbers of the filter and the outputs, a word each. The byte 1 has the outputs cleared before, outside of the time; else
-// they are what the runs before wrote.
+// 48,000 samples through the Svf, timed, through a head of the frame or by the filter alone: two of the sides of `tools/bench --svf`, which
+// starts this program and talks to it in bytes, low byte first. It is sent the length of a run and the mode, a word each, a sheet of one
+// entry, an Svf, and the samples. For each byte that comes then, it loads the entry into a head, runs the samples through the head's filter
+// and answers how many nanoseconds the runs took, the eight numbers of the filter and the outputs, a word each. The byte 1 has the outputs
+// cleared before, outside of the time; else they are what the runs before wrote. Where the length of a run is 0, there is no head: the
+// filter is called once, with all samples.
 
 ghost use Prim.Native.Nat.{_<_, _≤_};
 use filters::FilterMode;
+use filters::FrequencyApproximation;
+use filters::Svf;
 use frame::Frame;
 use heads::Head;
 use heads::Slot;
@@ -13,14 +16,25 @@ use libc::STDIN_FILENO;
 use libc::STDOUT_FILENO;
 use runs::RunForm;
 
-// Where the mode and the sheet stand, and where the samples begin and end.
+// Where the mode, the sheet and two words of its entry stand, and where the samples begin and end.
 const MODE: usize = 4;
 
 const SHEET: usize = 8;
 
+const FREQUENCY: usize = 11;
+
+const RESONANCE: usize = 15;
+
 const SAMPLES: usize = 23;
 
 const END: usize = 192023;
+
+struct Task {
+    library: Frame,
+    filter: Svf,
+    mode: FilterMode,
+    length: usize,
+}
 
 fn main() {
     let mut sent = [0u8; 192023];
@@ -33,38 +47,48 @@ fn main() {
     }
     let mut input = [0.0f32; 48000];
     samples(&sent, &mut input);
-    let library = Frame::fresh().open(&sent[SHEET..SAMPLES]);
     let mut out = [0.0f32; 48000];
-    let mode = filter_fields::mode_of(words::word_at(&sent, MODE));
-    serve(library.frame, mode, run_length(&sent), &input, &mut out);
+    serve(task_of(&sent), &input, &mut out);
+}
+
+fn float_at(sent: &[u8], at: usize) -> f32 {
+    words::word_to_f32(words::word_at(sent, at))
+}
+
+fn task_of(sent: &[u8; 192023]) -> Task {
+    let whole = &sent[..];
+    let opened = Frame::fresh().open(&whole[SHEET..SAMPLES]);
+    let set = Svf::new().set_f_q(
+        float_at(whole, FREQUENCY),
+        float_at(whole, RESONANCE),
+        FrequencyApproximation::Exact,
+    );
+    let library = opened.frame;
+    let filter = set.filter;
+    Task {
+        library,
+        filter,
+        mode: filter_fields::mode_of(words::word_at(whole, MODE)),
+        length: words::word_at(whole, 0) as usize,
+    }
 }
 
 fn samples(sent: &[u8], input: &mut [f32]) {
     let n = filter_core::shortest(input.len(), 48000);
     let mut i = 0usize;
     while i < n {
-        input[i] = words::word_to_f32(words::word_at(sent, SAMPLES + 4 * i));
+        input[i] = float_at(sent, SAMPLES + 4 * i);
         i += 1;
     }
 }
 
-// A run of no samples would never end.
-fn run_length(sent: &[u8; 192023]) -> usize
-    ensures { λ r. ⌜ 0 < r ⌝ }
-{
-    let n = words::word_at(sent, 0) as usize;
-    if n == 0 { 1 } else { n }
-}
-
 // A proved loop has to end, and nothing says that the turns do. So the loop counts down, from a number that nothing uses up.
-fn serve(library: Frame, mode: FilterMode, length: usize, input: &[f32], out: &mut [f32])
-    requires { ⌜ 0 < length ⌝ }
-{
+fn serve(task: Task, input: &[f32], out: &mut [f32]) {
     let mut turn = [0u8; 1];
     let mut turns = u64::MAX;
     while turns > 0 && io::read_full(STDIN_FILENO, &mut turn) == 1 {
         prepare(turn[0], out);
-        take_turn(library, mode, length, input, out);
+        take_turn(task, input, out);
         turns -= 1;
     }
 }
@@ -81,7 +105,29 @@ fn prepare(turn: u8, out: &mut [f32]) {
     }
 }
 
-fn take_turn(library: Frame, mode: FilterMode, length: usize, input: &[f32], out: &mut [f32])
+fn take_turn(task: Task, input: &[f32], out: &mut [f32]) {
+    let mode = task.mode;
+    if task.length == 0 {
+        let filter = task.filter;
+        alone(filter, mode, input, out);
+    } else {
+        let library = task.library;
+        in_frame(library, mode, task.length, input, out);
+    }
+}
+
+fn alone(filter: Svf, mode: FilterMode, input: &[f32], out: &mut [f32]) {
+    let before = microseconds(libc::clock());
+    let next = filter.process_buffer(input, out, mode);
+    let after = microseconds(libc::clock());
+    answer(
+        nanoseconds(before, after),
+        any_filter::of_svf(next).fields(),
+        out,
+    );
+}
+
+fn in_frame(library: Frame, mode: FilterMode, length: usize, input: &[f32], out: &mut [f32])
     requires { ⌜ 0 < length ⌝ }
 {
     let loaded = library.load(0, 0);
@@ -89,7 +135,7 @@ fn take_turn(library: Frame, mode: FilterMode, length: usize, input: &[f32], out
     let frame = run_all(loaded.frame, mode, length, input, out);
     let after = microseconds(libc::clock());
     let shown = frame.show(0);
-    answer(nanoseconds(before, after), shown.head, out);
+    answer(nanoseconds(before, after), fields(shown.head), out);
 }
 
 // Where a run from `at` on ends, of n samples.
@@ -134,9 +180,8 @@ fn nanoseconds(before: u64, after: u64) -> u32 {
     }
 }
 
-fn answer(time: u32, head: Head, out: &[f32]) {
+fn answer(time: u32, numbers: [f32; 8], out: &[f32]) {
     let mut text = [0u8; 192036];
-    let numbers = fields(head);
     let a = put_word(time, &mut text, 0);
     let b = put_words(&numbers, &mut text, a);
     put_words(out, &mut text, b);

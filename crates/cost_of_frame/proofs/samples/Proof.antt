@@ -12,4 +12,4 @@ abbrev μ-loop : tie.MeasureT-loop
 μ-loop sent input₀ n i₀ input i = n - i
 
 pub samples-spec : {M : Type 1} → statement M
-samples-spec = tie.close (tie.spec Inv-loop μ-loop (λ c κs. search needs) (λ c. search needs) (λ c. search needs) (λ c. search needs) (λ c. search needs) (λ c. search needs) (λ c. search needs) (λ c. search needs) (λ c. search needs) (λ c. search needs) (λ c. search needs) (λ c. search needs) (λ c. search needs))
+samples-spec = tie.close (tie.spec Inv-loop μ-loop (λ c κs. search needs) (λ c. search needs) (λ c. search needs) (λ c. search needs) (λ c. search needs) (λ c. search needs) (λ c. search needs) (λ c. search needs) (λ c. search needs) (λ c. search needs) (λ c. search needs) (λ c. search needs))

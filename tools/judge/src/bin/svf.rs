@@ -1,6 +1,6 @@
-//! Times plain `Svf::process_buffer`, low-pass, over 48,000 samples: the source's Rust, and the proved one from Rust, from C and through a
-//! head of the frame. The sides take turns, 21 each after one that does not count; the answers of every turn are compared bit for bit, and
-//! a difference ends the program. `tools/bench --svf` builds what it needs and names the two programs, from C and with the frame.
+//! Times plain `Svf::process_buffer`, low-pass, over 48,000 samples: the source's Rust, and the proved one from Rust, C and Rattle, and
+//! through a head of the frame. The sides take turns, 21 each after one that does not count; the answers of every turn are compared bit for bit, and
+//! a difference ends the program. `tools/bench --svf` builds what it needs and names the two programs, the one in C and the one in Rattle.
 
 use judge::{bits, oracle, proved, Numbers};
 use std::hint::black_box;
@@ -32,7 +32,7 @@ fn eight(fields: [f32; 5]) -> [f32; 8] {
     std::array::from_fn(|i| *fields.get(i).unwrap_or(&0.0))
 }
 
-/// A side in this process: `$run` runs the filter over the input into the outputs.
+/// A side in this process, of the crate `$of`.
 macro_rules! here {
     ($of:ident, $input:expr, $mode:expr) => {{
         let input: Vec<f32> = $input.to_vec();
@@ -167,14 +167,15 @@ fn subnormal() -> Vec<f32> {
     (0..SAMPLES).map(|_| word(&mut n)).collect()
 }
 
-fn row(name: &str, input: &[f32], clear: bool, from_c: &str, frame: &str) -> f64 {
+fn row(name: &str, input: &[f32], clear: bool, in_c: &str, in_rattle: &str) -> f64 {
     let mut sides = [
         here!(oracle, input, black_box(oracle::FilterMode::LowPass)),
         here!(oracle, input, oracle::FilterMode::LowPass),
         here!(proved, input, proved::FilterMode::LowPass),
-        program(from_c, SAMPLES as u32, input),
-        program(frame, 256, input),
-        program(frame, 4096, input),
+        program(in_c, SAMPLES as u32, input),
+        program(in_rattle, 0, input),
+        program(in_rattle, 256, input),
+        program(in_rattle, 4096, input),
     ];
     turn(&mut sides, 0, clear, false);
     for round in 0..TURNS {
@@ -202,12 +203,12 @@ fn row(name: &str, input: &[f32], clear: bool, from_c: &str, frame: &str) -> f64
 
 fn main() {
     let mut arguments = std::env::args().skip(1);
-    let from_c = arguments.next().expect("the program from C");
-    let frame = arguments.next().expect("the program with the frame");
+    let in_c = arguments.next().expect("the program in C");
+    let in_rattle = arguments.next().expect("the program in Rattle");
     println!("Svf::process_buffer, low-pass, 48,000 samples, frequency {FREQUENCY} and resonance {RESONANCE} by Exact. Microseconds: the middle of {TURNS} turns (the least to the greatest). In bold: over the lesser of the source's two.");
     println!();
-    println!("| input | outputs | source | source, mode fixed | from Rust | from C | frame, runs of 256 | frame, runs of 4,096 |");
-    println!("|---|---|---|---|---|---|---|---|");
+    println!("| input | outputs | source | source, mode fixed | from Rust | from C | from Rattle | frame, runs of 256 | frame, runs of 4,096 |");
+    println!("|---|---|---|---|---|---|---|---|---|");
     let mut worst: f64 = 0.0;
     for (name, input) in [
         ("outline", outline()),
@@ -215,7 +216,7 @@ fn main() {
         ("subnormal", subnormal()),
     ] {
         for clear in [true, false] {
-            worst = worst.max(row(name, &input, clear, &from_c, &frame));
+            worst = worst.max(row(name, &input, clear, &in_c, &in_rattle));
         }
     }
     println!();
