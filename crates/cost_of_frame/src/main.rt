@@ -16,7 +16,7 @@ use libc::STDIN_FILENO;
 use libc::STDOUT_FILENO;
 use runs::RunForm;
 
-// Where the mode, the sheet and two words of its entry stand, and where the samples begin and end.
+// Where the mode, the sheet and two words of its entry stand, where the samples begin, how many they are, and where they end.
 const MODE: usize = 4;
 
 const SHEET: usize = 8;
@@ -27,7 +27,12 @@ const RESONANCE: usize = 15;
 
 const SAMPLES: usize = 23;
 
-const END: usize = 192023;
+const COUNT: usize = 48000;
+
+const END: usize = SAMPLES + 4 * COUNT;
+
+// Bytes of an answer: the time, the numbers and the outputs, a word each.
+const ANSWER: usize = 4 * (1 + 8 + COUNT);
 
 struct Task {
     library: Frame,
@@ -37,7 +42,7 @@ struct Task {
 }
 
 fn main() {
-    let mut sent = [0u8; 192023];
+    let mut sent = [0u8; END];
     if io::read_full(STDIN_FILENO, &mut sent) < END {
         io::write_all(
             STDOUT_FILENO,
@@ -45,9 +50,9 @@ fn main() {
         );
         return;
     }
-    let mut input = [0.0f32; 48000];
+    let mut input = [0.0f32; COUNT];
     samples(&sent, &mut input);
-    let mut out = [0.0f32; 48000];
+    let mut out = [0.0f32; COUNT];
     serve(task_of(&sent), &input, &mut out);
 }
 
@@ -55,7 +60,7 @@ fn float_at(sent: &[u8], at: usize) -> f32 {
     words::word_to_f32(words::word_at(sent, at))
 }
 
-fn task_of(sent: &[u8; 192023]) -> Task {
+fn task_of(sent: &[u8; END]) -> Task {
     let whole = &sent[..];
     let opened = Frame::fresh().open(&whole[SHEET..SAMPLES]);
     let set = Svf::new().set_f_q(
@@ -74,7 +79,7 @@ fn task_of(sent: &[u8; 192023]) -> Task {
 }
 
 fn samples(sent: &[u8], input: &mut [f32]) {
-    let n = filter_core::shortest(input.len(), 48000);
+    let n = filter_core::shortest(input.len(), COUNT);
     let mut i = 0usize;
     while i < n {
         input[i] = float_at(sent, SAMPLES + 4 * i);
@@ -181,7 +186,7 @@ fn nanoseconds(before: u64, after: u64) -> u32 {
 }
 
 fn answer(time: u32, numbers: [f32; 8], out: &[f32]) {
-    let mut text = [0u8; 192036];
+    let mut text = [0u8; ANSWER];
     let a = put_word(time, &mut text, 0);
     let b = put_words(&numbers, &mut text, a);
     put_words(out, &mut text, b);
