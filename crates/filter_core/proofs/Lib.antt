@@ -1,5 +1,6 @@
 pub mod Choices
 pub mod Passes
+pub mod Kept
 pub mod Horner
 pub mod Refusals
 pub mod Rows
