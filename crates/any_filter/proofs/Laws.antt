@@ -15,8 +15,9 @@ use Rattle.svf.specs.declared.Svf.{Svf as SvfFilter}
 use Rattle.naive_svf.specs.declared.NaiveSvf.{NaiveSvf}
 use Rattle.modified_svf.specs.declared.ModifiedSvf.{ModifiedSvf}
 use Rattle.crossover_svf.specs.declared.CrossoverSvf.{CrossoverSvf}
-use Rattle.any_filter.specs.Cases.{ofDc, ofOnePole, ofSvf, ofNaive, ofModified, ofCrossover, dcFrom, onePoleFrom, svfFrom, naiveFrom, modifiedFrom, crossoverFrom, rested}
+use Rattle.any_filter.specs.Cases.{ofDc, ofOnePole, ofSvf, ofNaive, ofModified, ofCrossover, dcFrom, onePoleFrom, svfFrom, naiveFrom, modifiedFrom, crossoverFrom, withoutLast, rested}
 use Rattle.any_filter.specs.Fields.{fieldsOf, filterFrom, FieldsReturn}
+use Rattle.any_filter.specs.Rest.{RestClears}
 use Rattle.any_filter.specs.declared.FilterType.{FilterType}
 use Rattle.any_filter.specs.declared.FilterType.the-variants as type
 use Rattle.any_filter.specs.declared.Filter.{Filter}
@@ -59,9 +60,9 @@ module _ (s : Filter) where
     unfolding rested
     naive-rest f damp lp bp t e p q = rw (e, q, p) refl
 
-    pub modified-rest : (f fq x lp bp : Float) (t : ModifiedSvf) → s ≡ Modified f fq x lp bp → t ≡ modifiedReset (modifiedFrom f fq x lp bp) → w ≡ ofModified t → w ≡ rested s
+    pub modified-rest : (f fq x lp bp : Float) (t u : ModifiedSvf) → s ≡ Modified f fq x lp bp → t ≡ modifiedReset (modifiedFrom f fq x lp bp) → u ≡ withoutLast t → w ≡ ofModified u → w ≡ rested s
     unfolding rested
-    modified-rest f fq x lp bp t e p q = rw (e, q, p) refl
+    modified-rest f fq x lp bp t u e p q r = rw (e, r, q, p) refl
 
     pub crossover-rest : (f fq x₀ x₁ lp₀ lp₁ bp₀ bp₁ : Float) (t : CrossoverSvf) → s ≡ Crossover f fq x₀ x₁ lp₀ lp₁ bp₀ bp₁
         → t ≡ crossoverReset (crossoverFrom f fq x₀ x₁ lp₀ lp₁ bp₀ bp₁) → w ≡ ofCrossover t → w ≡ rested s
@@ -94,6 +95,15 @@ return (Svf g r h s t) = refl
 return (Naive f damp lp bp) = refl
 return (Modified f fq x lp bp) = refl
 return (Crossover f fq x₀ x₁ lp₀ lp₁ bp₀ bp₁) = refl
+
+pub clears : RestClears
+unfolding rested
+clears (Dc pole x y) = refl
+clears (OnePole g gi state) = refl
+clears (Svf g r h s t) = refl
+clears (Naive f damp lp bp) = refl
+clears (Modified f fq x lp bp) = refl
+clears (Crossover f fq x₀ x₁ lp₀ lp₁ bp₀ bp₁) = refl
 
 -- what `search` is handed at each return
 pub ruleset cases = (dc-fields, one-pole-fields, svf-fields, naive-fields, modified-fields, crossover-fields, dc-rest, one-pole-rest, svf-rest, naive-rest, modified-rest, crossover-rest, dc-from, one-pole-from, svf-from, naive-from, modified-from, crossover-from, return, needs)

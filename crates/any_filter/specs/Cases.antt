@@ -71,11 +71,16 @@ abbrev pub crossoverFrom : Float → Float → Float → Float → Float → Flo
 crossoverFrom f fq x₀ x₁ lp₀ lp₁ bp₀ bp₁ =
     record { f = f; fq = fq; x = x₀ ∷ x₁ ∷ []; lp = lp₀ ∷ lp₁ ∷ []; bp = bp₀ ∷ bp₁ ∷ [] }
 
--- rest: the type's own reset; of the DC blocker, which has none, x and y become 0
+-- the last sample is 0
+abbrev pub withoutLast : ModifiedSvf → ModifiedSvf
+withoutLast s = record { f = s .f; fq = s .fq; x = zeroᶠ; lp = s .lp; bp = s .bp }
+
+-- Rest in the frame: the type's own reset; of the DC blocker, which has none, x and y become 0. The modified filter's reset leaves the last
+-- sample, so x = 0 follows it (document 02, e).
 unfoldable pub rested : Filter → Filter
 rested (Dc pole x y) = Dc pole zeroᶠ zeroᶠ
 rested (OnePole g gi state) = ofOnePole (onePoleReset (onePoleFrom g gi state))
 rested (Svf g r h s t) = ofSvf (svfReset (svfFrom g r h s t))
 rested (Naive f damp lp bp) = ofNaive (naiveReset (naiveFrom f damp lp bp))
-rested (Modified f fq x lp bp) = ofModified (modifiedReset (modifiedFrom f fq x lp bp))
+rested (Modified f fq x lp bp) = ofModified (withoutLast (modifiedReset (modifiedFrom f fq x lp bp)))
 rested (Crossover f fq x₀ x₁ lp₀ lp₁ bp₀ bp₁) = ofCrossover (crossoverReset (crossoverFrom f fq x₀ x₁ lp₀ lp₁ bp₀ bp₁))

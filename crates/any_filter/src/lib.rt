@@ -7,8 +7,9 @@ use naive_svf::NaiveSvf;
 use one_pole::OnePole;
 use svf::Svf;
 ghost use mathlib.Core.Path.{_≡_};
-ghost use Rattle.any_filter.specs.Cases.{ofDc, ofOnePole, ofSvf, ofNaive, ofModified, ofCrossover, typeOf, rested};
+ghost use Rattle.any_filter.specs.Cases.{ofDc, ofOnePole, ofSvf, ofNaive, ofModified, ofCrossover, typeOf, withoutLast, rested};
 ghost use Rattle.any_filter.specs.Fields.{typeNumber, fieldCount, fieldsOf, filterFrom, FieldsReturn};
+ghost use Rattle.any_filter.specs.Rest.{RestClears};
 
 // A filter of any of the six types, with the fields of its type in the order of their declaration.
 pub enum Filter {
@@ -133,6 +134,19 @@ pub fn of_crossover(s: CrossoverSvf) -> Filter
         lp_1: s.lp[1],
         bp_0: s.bp[0],
         bp_1: s.bp[1],
+    }
+}
+
+// The last sample is 0.
+fn without_last(s: ModifiedSvf) -> ModifiedSvf
+    ensures { λ r. ⌜ r ≡ withoutLast s ⌝ }
+{
+    ModifiedSvf {
+        f: s.f,
+        fq: s.fq,
+        x: 0.0,
+        lp: s.lp,
+        bp: s.bp,
     }
 }
 
@@ -293,7 +307,8 @@ impl Filter {
         }
     }
 
-    // Clears what the filter retains of past samples: the type's own reset; of the DC blocker, which has none, x and y become 0.
+    // Clears what the filter retains of past samples: the type's own reset; of the DC blocker, which has none, x and y become 0; of the
+    // modified filter, whose reset leaves the last sample, x becomes 0 too.
     pub fn rest(self) -> Filter
         ensures { λ r. ⌜ r ≡ rested self ⌝ }
     {
@@ -314,13 +329,13 @@ impl Filter {
                 state_2,
             }.reset()),
             Filter::Naive { f, damp, lp, bp } => of_naive(NaiveSvf { f, damp, lp, bp }.reset()),
-            Filter::Modified { f, fq, x, lp, bp } => of_modified(ModifiedSvf {
+            Filter::Modified { f, fq, x, lp, bp } => of_modified(without_last(ModifiedSvf {
                 f,
                 fq,
                 x,
                 lp,
                 bp,
-            }.reset()),
+            }.reset())),
             Filter::Crossover {
                 f,
                 fq,
@@ -344,4 +359,9 @@ impl Filter {
 // A filter comes back from its type and its fields.
 pub fn fields_return()
     ensures { λ _. ⌜ FieldsReturn ⌝ }
+{}
+
+// A rest keeps the coefficients and clears all else.
+pub fn rest_clears()
+    ensures { λ _. ⌜ RestClears ⌝ }
 {}

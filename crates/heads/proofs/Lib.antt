@@ -3,3 +3,4 @@ pub mod Sound
 pub mod Follows
 pub mod Rows
 pub mod Refused
+pub mod Rest

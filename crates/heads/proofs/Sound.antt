@@ -25,12 +25,16 @@ use Rattle.heads.specs.declared.Slot.{Slot}
 use Rattle.heads.specs.declared.Slot.the-variants.{Holds}
 use Rattle.heads.specs.declared.Snapshot.{Snapshot}
 
--- ---- histories with one event more
+-- ---- histories joined, and with one event more
+
+pub snapshot-append : (s : Snapshot) (l m : List Event) → snapshotFrom s (l ++ m) ≡ snapshotFrom (snapshotFrom s l) m
+unfolding snapshotFrom
+snapshot-append s [] m = refl
+snapshot-append s (i ∷ l) m = snapshot-append (snapshotWith s i) l m
 
 pub snapshot-snoc : (s : Snapshot) (l : List Event) (i : Event) → snapshotFrom s (l ++ i ∷ []) ≡ snapshotWith (snapshotFrom s l) i
 unfolding snapshotFrom
-snapshot-snoc s [] i = refl
-snapshot-snoc s (j ∷ l) i = snapshot-snoc (snapshotWith s j) l i
+snapshot-snoc s l i = snapshot-append s l (i ∷ [])
 
 type-snoc : (k : FilterType) (l : List Event) (i : Event) → typeFrom k (l ++ i ∷ []) ≡ typeWith (typeFrom k l) i
 unfolding typeFrom
@@ -39,7 +43,7 @@ type-snoc k (j ∷ l) i = type-snoc (typeWith k j) l i
 
 -- ---- filters keep their type
 
-type-through : (f : Filter) (form : RunForm) (us : List Float) → typeOf (through f form us) ≡ typeOf f
+pub type-through : (f : Filter) (form : RunForm) (us : List Float) → typeOf (through f form us) ≡ typeOf f
 unfolding through
 type-through (Dc pole x y) form us = refl
 type-through (OnePole g gi state) form us = refl
@@ -48,7 +52,7 @@ type-through (Naive f damp lp bp) form us = refl
 type-through (Modified f fq x lp bp) form us = refl
 type-through (Crossover f fq x₀ x₁ lp₀ lp₁ bp₀ bp₁) form us = refl
 
-type-rested : (f : Filter) → typeOf (rested f) ≡ typeOf f
+pub type-rested : (f : Filter) → typeOf (rested f) ≡ typeOf f
 unfolding rested
 type-rested (Dc pole x y) = refl
 type-rested (OnePole g gi state) = refl

@@ -4,3 +4,4 @@ pub mod Head
 pub mod History
 pub mod Follows
 pub mod Rows
+pub mod Rest

@@ -14,6 +14,7 @@ ghost use Rattle.heads.specs.Snapshot.{holds, loadedWith, runSewn, runTw
 ghost use Rattle.heads.specs.Head.{emptyHead, holding, turn, headNumbered, headUnmarked, turnedPlainly, turnedWithMark};
 ghost use Rattle.heads.specs.Follows.{HeadFollows};
 ghost use Rattle.heads.specs.Rows.{HeadByRows};
+ghost use Rattle.heads.specs.Rest.{RestIsLoad};
 
 pub enum Slot {
     Empty,
@@ -242,4 +243,9 @@ pub fn head_follows()
 // Each number is answered in its row's case of the refusal table, and in no other.
 pub fn head_by_rows()
     ensures { λ _. ⌜ HeadByRows ⌝ }
+{}
+
+// From a rest on, a head holds what it would hold if it had just been loaded.
+pub fn rest_is_load()
+    ensures { λ _. ⌜ RestIsLoad ⌝ }
 {}

@@ -11,6 +11,7 @@ use sheets::Setter;
 use svf::Svf;
 ghost use mathlib.Core.Path.{_≡_};
 ghost use Rattle.loads.specs.Load.{filterFor, filterOf};
+ghost use Rattle.loads.specs.Rest.{LoadsAtRest};
 
 // New of the setter's type, and then the setter. It takes as many of the three numbers as it has parameters.
 fn filter_for(setter: Setter, a: f32, b: f32, c: f32) -> Filter
@@ -49,3 +50,8 @@ pub fn filter_of(entry: Entry) -> Filter
     let c = words::word_to_f32(entry.c);
     filter_for(sheets::setter_of(entry.kind), a, b, c)
 }
+
+// What a load makes is at rest already.
+pub fn loads_at_rest()
+    ensures { λ _. ⌜ LoadsAtRest ⌝ }
+{}

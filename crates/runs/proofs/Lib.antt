@@ -4,3 +4,4 @@ pub mod Refused
 pub mod Ran
 pub mod RanTwo
 pub mod Rows
+pub mod Kept

@@ -1,3 +1,4 @@
 pub mod Form
 pub mod Run
 pub mod Rows
+pub mod Kept

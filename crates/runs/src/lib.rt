@@ -10,6 +10,7 @@ pub use form::run_two_refusal;
 pub use one::run;
 pub use two::run_two;
 ghost use Rattle.runs.specs.Rows.{RunByRows};
+ghost use Rattle.runs.specs.Kept.{RunsKeepCoefficients};
 use filter_core::FilterMode;
 
 // The last three have two outputs.
@@ -27,4 +28,9 @@ pub enum RunForm {
 // 9 and 10 are answered each in its row's case of the refusal table, and in no other.
 pub fn run_by_rows()
     ensures { λ _. ⌜ RunByRows ⌝ }
+{}
+
+// Whatever its form and its samples, a run leaves the coefficients as they were.
+pub fn runs_keep_coefficients()
+    ensures { λ _. ⌜ RunsKeepCoefficients ⌝ }
 {}

@@ -1,4 +1,4 @@
--- The worked examples of document 01, a row each, about the definitions that the contracts cite.
+-- The worked examples of document 01, and one for a request of 02, a row each, about the definitions that the contracts cite.
 -- An output buffer is lent full of `kept`, so that the places that a form leaves alone show.
 use mathlib.Core.Path.{_≡_}
 use Prim.Native.Nat.{ℕ}
@@ -27,7 +27,7 @@ use Rattle.library.specs.Library.{zeroBytes, libraryOf, entryAt}
 use Rattle.any_filter.specs.declared.Filter.the-variants.{Dc}
 use Rattle.loads.specs.Load.{filterOf}
 use Rattle.runs.specs.declared.RunForm.the-variants.{Plain}
-use Rattle.heads.specs.Act.{run, mark, back, answered, marked, ran}
+use Rattle.heads.specs.Act.{run, rest, mark, back, answered, marked, ran}
 use Rattle.frame.specs.Call.{Call, opening, loading, at, plain, acted}
 use Rattle.frame.specs.History.{noHistories, repliesTo}
 
@@ -82,6 +82,16 @@ threadBreak = opening sheet ∷ loading 0 0 ∷ runOne ∷ at 0 mark ∷ runOne 
 
 abbrev pub lastHead : List Call
 lastHead = opening sheet ∷ loading 11 0 ∷ loading 12 0 ∷ at 11 mark ∷ at 11 mark ∷ at 11 mark ∷ at 11 mark ∷ at 11 mark ∷ []
+
+-- a sheet of one entry, a modified filter with f and fq 0.5
+abbrev pub modifiedSheet : List ℕ
+modifiedSheet = 0x01 ∷ 0x00 ∷ 0x06 ∷ 0x00 ∷ 0x00 ∷ 0x00 ∷ 0x3f ∷ 0x00 ∷ 0x00 ∷ 0x00 ∷ 0x3f ∷ zeroBytes 4
+
+abbrev pub runBand : Float → Call
+runBand x = at 0 (run (Plain BandPass) (x ∷ []) (kept ∷ []))
+
+abbrev pub twoMotifs : List Call
+twoMotifs = opening modifiedSheet ∷ loading 0 0 ∷ runBand oneᶠ ∷ at 0 rest ∷ runBand zeroᶠ ∷ []
 
 -- ---- the table
 
@@ -146,6 +156,15 @@ pub record WorkedExamples : Type 0 where
       ∷ acted (marked 0 2)
       ∷ acted (marked 0 3)
       ∷ acted (marked 8 0)
+      ∷ []
+  -- document 02, e: after a rest the band of a modified filter has nothing left of the 1 before it
+  pub rest-replies :
+      repliesTo noHistories twoMotifs
+      ≡ plain 0
+      ∷ plain 0
+      ∷ acted (ran 0 (halfᶠ ∷ []))
+      ∷ acted (answered 0)
+      ∷ acted (ran 0 (zeroᶠ ∷ []))
       ∷ []
   -- and Exact at a NaN
   pub tangent-at-nan : tanOf nan Exact ≡ tanOf clipᶠ Exact

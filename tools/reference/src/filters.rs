@@ -187,7 +187,7 @@ impl Filter {
         }
     }
 
-    /// The type's `reset`. The DC blocker has none: its x and y become 0.
+    /// The type's `reset`. The DC blocker has none: its x and y become 0. The modified filter's leaves x, which becomes 0 after it.
     pub fn rest(&mut self) {
         match self {
             Filter::Dc(f) => {
@@ -197,7 +197,11 @@ impl Filter {
             Filter::OnePole(f) => f.reset(),
             Filter::Svf(f) => f.reset(),
             Filter::Naive(f) => f.reset(),
-            Filter::Modified(f) => f.reset(),
+            Filter::Modified(f) => {
+                f.reset();
+                let [a, b, _, lp, bp] = f.fields();
+                *f = ModifiedSvf::from_fields([a, b, 0.0, lp, bp]);
+            }
             Filter::Crossover(f) => f.reset(),
         }
     }

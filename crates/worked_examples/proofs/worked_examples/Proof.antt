@@ -7,6 +7,7 @@ use Rattle.crossover_svf.specs.CrossoverSvf.{crossoverNext, crossoverOut}
 use Rattle.sheets.specs.Refusal.{firstRefusal, entryRefusal}
 use Rattle.lists.specs.Over.{over}
 use Rattle.library.specs.Library.{zeroBytes}
+use Rattle.any_filter.specs.Cases.{rested}
 use Rattle.runs.specs.Run.{through, firstOutput}
 use Rattle.loads.specs.Load.{filterFor}
 use Rattle.heads.specs.History.{typeFrom, snapshotFrom}
@@ -16,7 +17,7 @@ use Rattle.worked_examples.proofs.worked_examples.Statement.{statement}
 use Rattle.worked_examples.proofs.worked_examples.Tie as tie
 
 computed : WorkedExamples
-unfolding ofBits add sub mul neg lt isNan firstRefusal entryRefusal over zeroBytes filterFor through firstOutput repliesTo replyTo advance callNumber typeFrom snapshotFrom svfNext svfOut svfMixed naiveLow naiveHigh naiveNext naiveOut modifiedNext modifiedOut crossoverNext crossoverOut
+unfolding ofBits add sub mul neg lt isNan firstRefusal entryRefusal over zeroBytes rested filterFor through firstOutput repliesTo replyTo advance callNumber typeFrom snapshotFrom svfNext svfOut svfMixed naiveLow naiveHigh naiveNext naiveOut modifiedNext modifiedOut crossoverNext crossoverOut
 computed =
     record {
       dc-blocker = refl;
@@ -36,6 +37,7 @@ computed =
       sheet-filter = refl;
       break-replies = refl;
       last-replies = refl;
+      rest-replies = refl;
       tangent-at-nan = refl;
       sine-at-nan = refl;
     }

@@ -21,6 +21,7 @@ rest-spec =
     (λ c. search cases)
     (λ c κs. search cases)
     (λ c κs. search cases)
+    (λ c κs. search cases)
     (λ c. search cases)
     (λ c κs. search cases)
     (λ c κs. search cases)
