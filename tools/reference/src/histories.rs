@@ -767,6 +767,10 @@ pub fn sample(seed: u64) -> Vec<u8> {
             ));
         }
         text.push_str(&format!("head {h}\nrest {h}\nhead {h}\n"));
+        // The first sample after a rest, where the last before it was a 1.
+        text.push_str(&format!(
+            "run {h} plain:band 3f800000 00000000\nrest {h}\nrun {h} plain:band 00000000 3f800000\nhead {h}\n"
+        ));
     }
     text.push_str("\n# Bad lines.\n");
     for _ in 0..30 {
