@@ -71,7 +71,7 @@ abbrev pub crossoverFrom : Float → Float → Float → Float → Float → Flo
 crossoverFrom f fq x₀ x₁ lp₀ lp₁ bp₀ bp₁ =
     record { f = f; fq = fq; x = x₀ ∷ x₁ ∷ []; lp = lp₀ ∷ lp₁ ∷ []; bp = bp₀ ∷ bp₁ ∷ [] }
 
--- the last sample is 0
+-- the same with x = 0: the last sample is forgotten
 abbrev pub withoutLast : ModifiedSvf → ModifiedSvf
 withoutLast s = record { f = s .f; fq = s .fq; x = zeroᶠ; lp = s .lp; bp = s .bp }
 

@@ -11,7 +11,7 @@ use Rattle.any_filter.specs.declared.FilterType.{FilterType}
 use Rattle.any_filter.specs.declared.FilterType.the-variants.{DcBlocker, OnePole, Svf, NaiveSvf, ModifiedSvf, CrossoverSvf}
 use Rattle.any_filter.specs.declared.Filter.{Filter}
 
--- the fields that a setter sets, which stand before those that a sample moves
+-- how many of a type's fields are coefficients: they stand first, before those that a sample moves
 abbrev pub coefficientCount : FilterType → ℕ
 coefficientCount DcBlocker = 1
 coefficientCount OnePole = 2

@@ -137,7 +137,7 @@ pub fn of_crossover(s: CrossoverSvf) -> Filter
     }
 }
 
-// The last sample is 0.
+// The same with x = 0: the last sample is forgotten.
 fn without_last(s: ModifiedSvf) -> ModifiedSvf
     ensures { λ r. ⌜ r ≡ withoutLast s ⌝ }
 {

@@ -1,16 +1,13 @@
--- From a rest on, a head holds what it would hold if it had just been loaded. Assumes nothing.
+-- From a rest on, a head's filter is what it would be if the head had just been loaded. Assumes nothing.
 use mathlib.Core.Path.{_≡_, refl, ap, sym, _∙_}
 use mathlib.Core.List.{List, [], _∷_, _++_}
 use lib.Ieee.{Float}
-use Rattle.sheets.specs.declared.entry.Entry.{Entry}
 use Rattle.any_filter.specs.Cases.{typeOf, rested}
-use Rattle.any_filter.specs.Fields.{fieldsOf, filterFrom}
 use Rattle.any_filter.specs.Rest.{coefficientsOf}
 use Rattle.any_filter.specs.declared.Filter.{Filter}
 use Rattle.any_filter.specs.declared.Filter.the-variants.{Dc, OnePole, Svf, Naive, Modified, Crossover}
 use Rattle.runs.specs.Run.{through}
 use Rattle.runs.specs.declared.RunForm.{RunForm}
-use Rattle.loads.specs.Load.{filterOf}
 use Rattle.heads.specs.History.{Event, loadEvent, runEvent, restEvent, slotWith, snapshotWith, snapshotFrom, snapshotOf}
 use Rattle.heads.specs.Rest.{loadWith, lastLoadFrom, RestIsLoad}
 use Rattle.any_filter.proofs.Laws.{return, clears}

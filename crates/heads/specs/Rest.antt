@@ -1,4 +1,4 @@
--- What a rest is to a history (document 02, e): from it on, the head holds what it would hold if it had just been loaded.
+-- What a rest is to a history (document 02, e): from it on, the head's filter is what it would be if the head had just been loaded.
 use mathlib.Core.Path.{_≡_}
 use mathlib.Core.List.{List, [], _∷_, _++_}
 use Rattle.heads.specs.History.{Event, loadEvent, runEvent, restEvent, snapshotOf}

@@ -245,7 +245,7 @@ pub fn head_by_rows()
     ensures { λ _. ⌜ HeadByRows ⌝ }
 {}
 
-// From a rest on, a head holds what it would hold if it had just been loaded.
+// From a rest on, a head's filter is what it would be if the head had just been loaded.
 pub fn rest_is_load()
     ensures { λ _. ⌜ RestIsLoad ⌝ }
 {}

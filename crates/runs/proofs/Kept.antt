@@ -1,19 +1,15 @@
 -- No run changes a coefficient, since no form's step does. Assumes nothing.
-use Prim.Native.Nat.{ℕ}
-use mathlib.Core.Path.{_≡_, refl}
-use mathlib.Core.List.{List}
-use lib.Ieee.{Float}
+use mathlib.Core.Path.{refl}
 use Rattle.filter_core.specs.declared.FilterMode.{FilterMode}
 use Rattle.svf.specs.Svf.{svfNext}
 use Rattle.naive_svf.specs.NaiveSvf.{naiveNext}
 use Rattle.modified_svf.specs.ModifiedSvf.{modifiedNext}
 use Rattle.crossover_svf.specs.CrossoverSvf.{crossoverNext}
-use Rattle.svf.specs.declared.Svf.{Svf as SvfFilter}
 use Rattle.any_filter.specs.Cases.{ofDc, ofOnePole, ofSvf, ofNaive, ofModified, ofCrossover}
 use Rattle.any_filter.specs.Rest.{coefficientsOf}
 use Rattle.any_filter.specs.declared.Filter.{Filter}
 use Rattle.any_filter.specs.declared.Filter.the-variants.{Dc, OnePole, Svf, Naive, Modified, Crossover}
-use Rattle.runs.specs.Run.{Form, onlyPlain, dcForm, onePoleForm, svfForm, naiveForm, modifiedForm, crossoverForm, machineOf, through}
+use Rattle.runs.specs.Run.{Form, onlyPlain, dcForm, onePoleForm, svfForm, naiveForm, modifiedForm, crossoverForm, through}
 use Rattle.runs.specs.Kept.{RunsKeepCoefficients}
 use Rattle.runs.specs.declared.RunForm.{RunForm}
 use Rattle.runs.specs.declared.RunForm.the-variants.{Plain, Gain, Stride, Multimode, Decimate, Gains, Pair, Split}

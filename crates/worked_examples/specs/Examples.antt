@@ -157,6 +157,9 @@ pub record WorkedExamples : Type 0 where
       ∷ acted (marked 0 3)
       ∷ acted (marked 8 0)
       ∷ []
+  -- and Exact at a NaN
+  pub tangent-at-nan : tanOf nan Exact ≡ tanOf clipᶠ Exact
+  pub sine-at-nan : naiveFrequency nan Exact ≡ naiveFrequency clipᶠ Exact
   -- document 02, e: after a rest the band of a modified filter has nothing left of the 1 before it
   pub rest-replies :
       repliesTo noHistories twoMotifs
@@ -166,6 +169,3 @@ pub record WorkedExamples : Type 0 where
       ∷ acted (answered 0)
       ∷ acted (ran 0 (zeroᶠ ∷ []))
       ∷ []
-  -- and Exact at a NaN
-  pub tangent-at-nan : tanOf nan Exact ≡ tanOf clipᶠ Exact
-  pub sine-at-nan : naiveFrequency nan Exact ≡ naiveFrequency clipᶠ Exact

@@ -3,7 +3,7 @@
 ghost use Rattle.worked_examples.specs.Examples.{WorkedExamples};
 ghost use Rattle.worked_examples.specs.Differences.{Differences};
 
-// Those of document 01.
+// Those of document 01, and one for request e of 02.
 pub fn worked_examples()
     ensures { λ _. ⌜ WorkedExamples ⌝ }
 {}

@@ -199,8 +199,8 @@ impl Filter {
             Filter::Naive(f) => f.reset(),
             Filter::Modified(f) => {
                 f.reset();
-                let [a, b, _, lp, bp] = f.fields();
-                *f = ModifiedSvf::from_fields([a, b, 0.0, lp, bp]);
+                let [frequency, damping, _, low, band] = f.fields();
+                *f = ModifiedSvf::from_fields([frequency, damping, 0.0, low, band]);
             }
             Filter::Crossover(f) => f.reset(),
         }

@@ -234,6 +234,13 @@ impl Frame {
         0
     }
 
+    /// Whether the head's filter has a last sample that its own `reset` would leave.
+    pub fn keeps_a_sample(&mut self, head: u64) -> bool {
+        let replay = self.replay;
+        let filter = self.head(head).and_then(|head| head.list.filter(replay));
+        matches!(filter, Some(Filter::Modified(f)) if f.fields()[2] != 0.0)
+    }
+
     /// The mark's number, or the refusal's.
     pub fn mark(&mut self, head: u64) -> Result<usize, u8> {
         let head = self.head(head).ok_or(1)?;

@@ -221,7 +221,11 @@ fn call(frame: &mut Frame, line: &[u8], counts: &mut Counts, to: &mut String) ->
             run(frame, "two", head, of, input, &[first, second], counts, to)?;
         }
         [b"rest", head] => {
-            let refusal = frame.rest(number(head)?);
+            let head = number(head)?;
+            if frame.keeps_a_sample(head) {
+                counts.add("rest of a sample that reset leaves", 1);
+            }
+            let refusal = frame.rest(head);
             numbered("rest", refusal, counts, to);
         }
         [b"mark", head] => match frame.mark(number(head)?) {

@@ -37,9 +37,9 @@ computed =
       sheet-filter = refl;
       break-replies = refl;
       last-replies = refl;
-      rest-replies = refl;
       tangent-at-nan = refl;
       sine-at-nan = refl;
+      rest-replies = refl;
     }
 
 pub worked-examples-spec : {M : Type 1} → statement M

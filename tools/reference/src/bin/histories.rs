@@ -164,8 +164,20 @@ fn tried_enough(counts: &Counts) -> bool {
     }
     wanted.extend(histories::KIND_BYTES.map(|k| format!("kind byte {k}")));
     for call in [
-        "open", "load", "run", "two", "rest", "mark", "back", "drop", "write", "check", "lookup",
-        "head", "bad line",
+        "open",
+        "load",
+        "run",
+        "two",
+        "rest",
+        "mark",
+        "back",
+        "drop",
+        "write",
+        "check",
+        "lookup",
+        "head",
+        "bad line",
+        "rest of a sample that reset leaves",
     ] {
         wanted.push(call.to_string());
     }
@@ -195,9 +207,10 @@ fn summary(counts: &Counts) {
         .map(|(_, n)| *n)
         .collect();
     println!(
-        "{} of a run's call, type and form, the rarest {} times; bad lines {}, long lines {}",
+        "{} of a run's call, type and form, the rarest {} times; rests of a sample that reset leaves {}; bad lines {}, long lines {}",
         pairs.len(),
         pairs.iter().min().unwrap_or(&0),
+        counts.of("rest of a sample that reset leaves"),
         counts.of("bad line"),
         counts.of("long line")
     );
