@@ -9,9 +9,8 @@ use borrow.Author.Tests.{eqb-true, eqb-false, eq-eqb, ne-eqb, ltb-true, ltb-fals
 use lib.Dec.{eqb, ltb}
 use lib.Ieee.{Float, lt}
 use native.Mathlib.Omega.{arith}
-use Rattle.filter_core.specs.Arithmetic.{zeroᶠ}
-use Rattle.filter_core.specs.Refusal.{frequencyRefusal}
-use Rattle.filter_core.specs.Rows.{_then_, First, none, here, later, Exactly, StepCase, no-step, FrequencyCase, below-zero, RefusalsByRows}
+use Rattle.filter_core.specs.Refusal.{exactLowest, frequencyRefusal}
+use Rattle.filter_core.specs.Rows.{_then_, First, none, here, later, Exactly, StepCase, no-step, FrequencyCase, below-lowest, RefusalsByRows}
 use Rattle.filter_core.specs.declared.FrequencyApproximation.{FrequencyApproximation}
 use Rattle.filter_core.specs.declared.FrequencyApproximation.the-variants.{Exact, Accurate, Fast, Dirty}
 
@@ -106,11 +105,15 @@ first-last (no q) = later q none
 step-there : {d : ℕ} → (d ≡ 0 → ⊥) → StepCase d 10 → ⊥
 step-there z (no-step e) = z e
 
-not-below : {f : Float} → lt f zeroᶠ ≡ false → FrequencyCase f Exact 11 → ⊥
-not-below {f} e (below-zero p) = let z : _≡_ {A = ℕ} 0 1 = cc in omega arith
+not-below : {f : Float} → lt f exactLowest ≡ false → FrequencyCase f Exact 11 → ⊥
+not-below {f} e (below-lowest p) = let z : _≡_ {A = ℕ} 0 1 = cc in omega arith
+
+-- where Exact is asked
+pub exact-step : (f : Float) → Step (FrequencyCase f Exact 11) 11 (frequencyRefusal f Exact)
+exact-step f = step-if 11 (lt f exactLowest) below-lowest not-below
 
 by-frequency : (f : Float) (a : FrequencyApproximation) → First (FrequencyCase f a) (11 ∷ []) (frequencyRefusal f a)
-by-frequency f Exact = first-last (step-if 11 (lt f zeroᶠ) below-zero not-below)
+by-frequency f Exact = first-last (exact-step f)
 by-frequency f Accurate = later {n = 11} (elim [ ]) none
 by-frequency f Fast = later {n = 11} (elim [ ]) none
 by-frequency f Dirty = later {n = 11} (elim [ ]) none

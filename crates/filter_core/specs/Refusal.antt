@@ -5,7 +5,7 @@ use mathlib.Core.Bool.{cond}
 use mathlib.Core.List.{List, []}
 use lib.Dec.{eqb}
 use lib.Ieee.{Float, lt}
-use Rattle.filter_core.specs.Arithmetic.{zeroᶠ}
+use Rattle.filter_core.specs.Arithmetic.{word}
 use Rattle.filter_core.specs.Buffer.{Filtered}
 use Rattle.filter_core.specs.declared.FrequencyApproximation.{FrequencyApproximation}
 use Rattle.filter_core.specs.declared.FrequencyApproximation.the-variants.{Exact, Accurate, Fast, Dirty}
@@ -14,9 +14,13 @@ use Rattle.filter_core.specs.declared.FrequencyApproximation.the-variant
 abbrev pub stepRefusal : ℕ → ℕ
 stepRefusal d = cond (eqb d 0) 10 0
 
--- `frequency` of the refusal table: Exact with f below 0. -0.0 is not below 0, and neither is a NaN
+-- the lowest frequency that Exact takes, by 02 c: -0.497
+abbrev pub exactLowest : Float
+exactLowest = word 0xbefe_76c9
+
+-- `frequency` of the refusal table, by 02 c: Exact with f below that. A NaN is not below it
 abbrev pub frequencyRefusal : Float → FrequencyApproximation → ℕ
-frequencyRefusal f Exact = cond (lt f zeroᶠ) 11 0
+frequencyRefusal f Exact = cond (lt f exactLowest) 11 0
 frequencyRefusal f Accurate = 0
 frequencyRefusal f Fast = 0
 frequencyRefusal f Dirty = 0

@@ -5,8 +5,7 @@ use mathlib.Core.Bool.{true, cond}
 use mathlib.Core.List.{List, [], _∷_}
 use lib.Dec.{eqb}
 use lib.Ieee.{Float, lt}
-use Rattle.filter_core.specs.Arithmetic.{zeroᶠ}
-use Rattle.filter_core.specs.Refusal.{stepRefusal, frequencyRefusal}
+use Rattle.filter_core.specs.Refusal.{stepRefusal, exactLowest, frequencyRefusal}
 use Rattle.filter_core.specs.declared.FrequencyApproximation.{FrequencyApproximation}
 use Rattle.filter_core.specs.declared.FrequencyApproximation.the-variants.{Exact}
 
@@ -36,9 +35,9 @@ Exactly case order number = Only (First case order) number
 pub data StepCase (d : ℕ) : ℕ → Type 0 where
   no-step : d ≡ 0 → StepCase d 10
 
--- 11: a frequency below 0 in Exact
+-- 11, by 02 c: a frequency below -0.497 in Exact
 pub data FrequencyCase (f : Float) : FrequencyApproximation → ℕ → Type 0 where
-  below-zero : lt f zeroᶠ ≡ true → FrequencyCase f Exact 11
+  below-lowest : lt f exactLowest ≡ true → FrequencyCase f Exact 11
 
 pub record RefusalsByRows : Type 0 where
   pub step : (d : ℕ) → Exactly (StepCase d) (10 ∷ []) (stepRefusal d)

@@ -36,12 +36,15 @@ pub fn step_refusal(step: usize) -> u8
     if step == 0 { 10 } else { 0 }
 }
 
+// The lowest frequency that Exact takes: the negative of where it clips.
+pub const EXACT_LOWEST: f32 = -0.497;
+
 // The number that a frequency gets: 11 where Exact does not take it, or 0.
 pub fn frequency_refusal(f: f32, approximation: FrequencyApproximation) -> u8
     ensures { λ r. ⌜ r ≡ frequencyRefusal f approximation ⌝ }
 {
     match approximation {
-        FrequencyApproximation::Exact => if f < 0.0 { 11 } else { 0 },
+        FrequencyApproximation::Exact => if f < EXACT_LOWEST { 11 } else { 0 },
         FrequencyApproximation::Accurate => 0,
         FrequencyApproximation::Fast => 0,
         FrequencyApproximation::Dirty => 0,

@@ -4,6 +4,7 @@ use mathlib.Core.List.{List, [], _∷_}
 use lib.Ieee.{Float, lt}
 use Rattle.filter_core.specs.Arithmetic.{_*ᶠ_, word, oneᶠ, twoᶠ, πᶠ}
 use Rattle.filter_core.specs.Series.{horner}
+use Rattle.filter_core.specs.Odd.{odd, OddFrom}
 use Rattle.filter_core.specs.declared.FrequencyApproximation.{FrequencyApproximation}
 use Rattle.filter_core.specs.declared.FrequencyApproximation.the-variants.{Exact, Accurate, Fast, Dirty}
 
@@ -18,9 +19,12 @@ sineRow = oneᶠ ∷ word 0xbe2a_aaab ∷ word 0x3c08_8887 ∷ word 0xb950_0c03 
 abbrev pub sineSeries : Float → Float
 sineSeries x = x *ᶠ horner (x *ᶠ x) sineRow
 
--- clipped at 0.497
+-- clipped at 0.497, as 01 has it, for f from 0 up
+abbrev pub sineExact : Float → Float
+sineExact f = sineSeries (πᶠ *ᶠ clipAt (word 0x3efe_76c9) f)
+
 abbrev pub naiveExact : Float → Float
-naiveExact f = twoᶠ *ᶠ sineSeries (πᶠ *ᶠ clipAt (word 0x3efe_76c9) f)
+naiveExact f = twoᶠ *ᶠ odd sineExact f
 
 -- clipped at 0.158
 abbrev pub naiveLinear : Float → Float
@@ -31,3 +35,7 @@ naiveFrequency f Exact = naiveExact f
 naiveFrequency f Accurate = naiveLinear f
 naiveFrequency f Fast = naiveLinear f
 naiveFrequency f Dirty = naiveLinear f
+
+-- twice 01's sine from 0 up, and mirrored below
+abbrev pub SineIsOdd : Type 0
+SineIsOdd = OddFrom (λ f. twoᶠ *ᶠ sineExact f) (λ f. naiveFrequency f Exact)

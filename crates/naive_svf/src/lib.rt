@@ -6,7 +6,8 @@ ghost use mathlib.Core.Path.{_≡_};
 ghost use Prim.Native.Nat.{_<_};
 ghost use Rattle.filter_core.specs.Buffer.{Filtered, within, each, puts, putsDue};
 ghost use Rattle.filter_core.specs.Refusal.{Answered, frequencyRefusal, unlessRefused};
-ghost use Rattle.naive_svf.specs.Sine.{clipAt, sineSeries, naiveExact, naiveLinear, naiveFrequency};
+ghost use Rattle.filter_core.specs.Odd.{odd};
+ghost use Rattle.naive_svf.specs.Sine.{clipAt, sineSeries, sineExact, naiveExact, naiveLinear, naiveFrequency, SineIsOdd};
 ghost use Rattle.naive_svf.specs.NaiveSvf.{naiveNew, naiveReset, naiveSetFQ, naiveInit};
 ghost use Rattle.naive_svf.specs.NaiveSvf.{naiveNormalized, naiveLow, naiveBand, naiveHigh, naiveNext, naiveOut};
 
@@ -98,10 +99,27 @@ impl NaiveSvf {
         x * filter_core::series(x * x, &row)
     }
 
+    fn sine_exact(f: f32) -> f32
+        ensures { λ r. ⌜ r ≡ sineExact f ⌝ }
+    {
+        Self::sine_series(Self::PI * clip_at(Self::EXACT_CLIP, f))
+    }
+
+    // The same from 0 up, and mirrored below.
+    fn sine_mirrored(f: f32) -> f32
+        ensures { λ r. ⌜ r ≡ odd sineExact f ⌝ }
+    {
+        if f < 0.0 {
+            -Self::sine_exact(-f)
+        } else {
+            Self::sine_exact(f)
+        }
+    }
+
     fn exact_frequency(f: f32) -> f32
         ensures { λ r. ⌜ r ≡ naiveExact f ⌝ }
     {
-        2.0 * Self::sine_series(Self::PI * clip_at(Self::EXACT_CLIP, f))
+        2.0 * Self::sine_mirrored(f)
     }
 
     fn linear_frequency(f: f32) -> f32
@@ -280,3 +298,8 @@ impl NaiveSvf {
         f
     }
 }
+
+// Exact's coefficient is twice 01's sine from 0 up, and below 0 the negative of its value at -f.
+pub fn sine_is_odd()
+    ensures { λ _. ⌜ SineIsOdd ⌝ }
+{}

@@ -4,6 +4,7 @@ use mathlib.Core.List.{List, [], _∷_}
 use lib.Ieee.{Float, lt, le}
 use Rattle.filter_core.specs.Arithmetic.{_+ᶠ_, _-ᶠ_, _*ᶠ_, _/ᶠ_, word, halfᶠ, oneᶠ, πᶠ}
 use Rattle.filter_core.specs.Series.{horner}
+use Rattle.filter_core.specs.Odd.{odd, OddFrom}
 use Rattle.filter_core.specs.declared.FrequencyApproximation.{FrequencyApproximation}
 use Rattle.filter_core.specs.declared.FrequencyApproximation.the-variants.{Exact, Accurate, Fast, Dirty}
 
@@ -25,6 +26,10 @@ tanSeries x = x *ᶠ horner (x *ᶠ x) tangentRow
 -- T(π f) up to f = 0.25, above that 1 / T(π (0.5 - f))
 abbrev pub tangent : Float → Float
 tangent f = cond (le f (word 0x3e80_0000)) (tanSeries (πᶠ *ᶠ f)) (oneᶠ /ᶠ tanSeries (πᶠ *ᶠ (halfᶠ -ᶠ f)))
+
+-- as 01 has it, for f from 0 up
+abbrev pub tanExact : Float → Float
+tanExact f = tangent (clip f)
 
 -- ---- the source's polynomials
 
@@ -85,7 +90,11 @@ tanAccurate f =
     f *ᶠ (πᶠ +ᶠ y *ᶠ (accurateA +ᶠ y *ᶠ (accurateB +ᶠ y *ᶠ (accurateC +ᶠ y *ᶠ (accurateD +ᶠ y *ᶠ accurateE)))))
 
 abbrev pub tanOf : Float → FrequencyApproximation → Float
-tanOf f Exact = tangent (clip f)
+tanOf f Exact = odd tanExact f
 tanOf f Accurate = tanAccurate f
 tanOf f Fast = tanFast f
 tanOf f Dirty = tanDirty f
+
+-- 01's tangent from 0 up, and mirrored below
+abbrev pub TangentIsOdd : Type 0
+TangentIsOdd = OddFrom tanExact (λ f. tanOf f Exact)

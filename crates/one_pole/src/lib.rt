@@ -5,7 +5,8 @@ use filter_core::FrequencyApproximation;
 ghost use mathlib.Core.Path.{_≡_};
 ghost use Rattle.filter_core.specs.Refusal.{frequencyRefusal, unlessRefused};
 ghost use Rattle.filter_core.specs.Arithmetic.{zeroᶠ};
-ghost use Rattle.one_pole.specs.Tangent.{clip, tanSeries, tangent, tanDirty, tanFast, tanAccurate, tanOf};
+ghost use Rattle.filter_core.specs.Odd.{odd};
+ghost use Rattle.one_pole.specs.Tangent.{tanSeries, tangent, tanExact, tanDirty, tanFast, tanAccurate, tanOf, TangentIsOdd};
 ghost use Rattle.one_pole.specs.OnePole.{onePoleNew, onePoleInit, onePoleReset, onePoleSetG, onePoleSetF, onePoleNext, onePoleOut};
 
 pub struct OnePole {
@@ -126,12 +127,23 @@ impl OnePole {
     }
 
     fn tan_exact(f: f32) -> f32
-        ensures { λ r. ⌜ r ≡ tangent (clip f) ⌝ }
+        ensures { λ r. ⌜ r ≡ tanExact f ⌝ }
     {
         if f < Self::EXACT_CLIP {
             Self::tan_clipped(f)
         } else {
             Self::tan_clipped(Self::EXACT_CLIP)
+        }
+    }
+
+    // The same from 0 up, and mirrored below.
+    fn tan_mirrored(f: f32) -> f32
+        ensures { λ r. ⌜ r ≡ odd tanExact f ⌝ }
+    {
+        if f < 0.0 {
+            -Self::tan_exact(-f)
+        } else {
+            Self::tan_exact(f)
         }
     }
 
@@ -169,7 +181,7 @@ impl OnePole {
         ensures { λ r. ⌜ r ≡ tanOf f approximation ⌝ }
     {
         match approximation {
-            FrequencyApproximation::Exact => Self::tan_exact(f),
+            FrequencyApproximation::Exact => Self::tan_mirrored(f),
             FrequencyApproximation::Accurate => Self::tan_accurate(f),
             FrequencyApproximation::Fast => Self::tan_fast(f),
             FrequencyApproximation::Dirty => Self::tan_dirty(f),
@@ -238,3 +250,8 @@ impl OnePole {
         }
     }
 }
+
+// Exact's tangent is 01's from 0 up, and below 0 the negative of its value at -f.
+pub fn tangent_is_odd()
+    ensures { λ _. ⌜ TangentIsOdd ⌝ }
+{}

@@ -4,12 +4,10 @@ use mathlib.Core.Path.{_≡_, refl, sym, ap, _∙_}
 use mathlib.Core.Bool.{Bool}
 use mathlib.Core.List.{List}
 use borrow.Author.Needs.{needs}
-use Rattle.filter_core.specs.Arithmetic.{word}
-use Rattle.filter_core.specs.Refusal.{frequencyRefusal}
 use Rattle.filter_core.specs.declared.FrequencyApproximation.{FrequencyApproximation}
 use Rattle.words.specs.Word.{wordFrom, otherNan}
 use Rattle.filter_core.proofs.Choices.{deciding}
-use Rattle.sheets.specs.Refusal.{settingRefusal, entryRefusal}
+use Rattle.sheets.specs.Refusal.{wordFrequencyRefusal, settingRefusal, entryRefusal}
 use Rattle.sheets.specs.Sheet.{kindAt, settingAt, entryOf, entryIn, refusalAt}
 use Rattle.sheets.specs.declared.entry.Entry.{Entry}
 use Rattle.sheets.specs.declared.setter.Setter.{Setter}
@@ -22,7 +20,7 @@ nan-told w p q = sym p ∙ q
 
 -- ---- a frequency
 
-module _ (s : Setter) (p : FrequencyApproximation) (a : ℕ) {r : ℕ} (q : r ≡ frequencyRefusal (word a) p) where
+module _ (s : Setter) (p : FrequencyApproximation) (a : ℕ) {r : ℕ} (q : r ≡ wordFrequencyRefusal a p) where
   pub one-pole-setting : s ≡ OnePole p → r ≡ settingRefusal s a
   one-pole-setting e = rw e q
 

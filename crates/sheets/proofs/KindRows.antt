@@ -1,20 +1,19 @@
 -- What the check takes from a kind's setter is what the table says of the kind. Assumes nothing.
 use Prim.Native.Nat.{ℕ, zero, suc, _≤_}
-use mathlib.Core.Path.{_≡_, refl, sym, subst, _∙_}
-use mathlib.Core.Bool.{Bool, true, false, cond}
+use mathlib.Core.Path.{_≡_, refl}
 use mathlib.Core.Logic.{_⊎_, inl, inr, ⊎-elim}
 use native.Mathlib.Omega.{arith}
-use lib.Ieee.{lt}
-use Rattle.filter_core.specs.Arithmetic.{word, zeroᶠ}
+use Rattle.filter_core.specs.Arithmetic.{word}
 use Rattle.filter_core.specs.Refusal.{frequencyRefusal}
 use Rattle.filter_core.specs.declared.FrequencyApproximation.{FrequencyApproximation}
 use Rattle.filter_core.specs.declared.FrequencyApproximation.the-variants.{Exact, Accurate, Fast, Dirty}
-use Rattle.filter_core.proofs.Rows.{Step, no, step-if}
+use Rattle.filter_core.proofs.Rows.{Step, no, step-to, exact-step}
 use Rattle.sheets.specs.Kind.{approximated, exact, setterFor, kindRefusal}
 use Rattle.sheets.specs.Refusal.{used, settingRefusal}
 use Rattle.sheets.specs.Rows.{KindWrong, no-kind, past-kinds, past-approximations, not-exact, wordsUsed, FrequencyWrong}
 use Rattle.sheets.specs.declared.setter.Setter.{Setter}
 use Rattle.sheets.specs.declared.setter.Setter.the-variants.{DcBlocker, OnePole, SvfFrequency, SvfCoefficients, NaiveSvf, ModifiedSvf, CrossoverSvf}
+use Rattle.sheets.proofs.Setters.{by-setter}
 
 -- a kind k with the approximation p is wrong, and its setter s refused; or right, and the setter goes by the table
 pub data Kind (k p : ℕ) (s : Setter) : Type 0 where
@@ -34,9 +33,6 @@ exact-kind : (k p : ℕ) (s : Setter) → 1 ≤ k → k ≤ 7 → (TakesF k → 
 exact-kind k zero s a b n r u f = right (not-wrong k 0 a b (omega arith) (inr refl)) r u (λ x. rw (f x) (no (λ w. n (w .takes-f))))
 exact-kind k (suc p) s a b n r u f = wrong (not-exact (λ e. n (inl e)) (λ e. n (inr (inl e))) (λ e. n (inr (inr e))) (omega arith)) refl
 
-different : (b : Bool) → b ≡ false → b ≡ true → ⊥
-different b p q = subst (λ (t : Bool). cond t ⊥ Unit) (sym p ∙ q) tt
-
 module _ (k : ℕ) (s : FrequencyApproximation → Setter) (a : 1 ≤ k) (b : k ≤ 7) (o : TakesF k) (r : (q : FrequencyApproximation) → kindRefusal (s q) ≡ 0)
     (u : (q : FrequencyApproximation) → used (s q) ≡ wordsUsed k) (f : (q : FrequencyApproximation) (x : ℕ) → settingRefusal (s q) x ≡ frequencyRefusal (word x) q) where
   approximated-right : (p : ℕ) (q : FrequencyApproximation) → p ≤ 3 → ((x : ℕ) → Step (FrequencyWrong k p x) 11 (frequencyRefusal (word x) q)) → Kind k p (s q)
@@ -45,7 +41,7 @@ module _ (k : ℕ) (s : FrequencyApproximation → Setter) (a : 1 ≤ k) (b : k 
   approximated-kind : (p : ℕ) → Kind k p (approximated s p)
   approximated-kind zero =
       approximated-right 0 Exact (omega arith)
-      (λ x. step-if 11 (lt (word x) zeroᶠ) (λ e. record { takes-f = o; exact = refl; below = e }) (λ e w. different (lt (word x) zeroᶠ) e (w .below)))
+      (λ x. step-to (λ c. record { takes-f = o; exact = refl; refused = c }) (λ w. w .refused) (exact-step (word x)))
   approximated-kind (suc zero) = approximated-right 1 Accurate (omega arith) (λ x. no (λ w. let e = w .exact in omega arith))
   approximated-kind (suc (suc zero)) = approximated-right 2 Fast (omega arith) (λ x. no (λ w. let e = w .exact in omega arith))
   approximated-kind (suc (suc (suc zero))) = approximated-right 3 Dirty (omega arith) (λ x. no (λ w. let e = w .exact in omega arith))
@@ -57,10 +53,10 @@ none-of k x y z o = ⊎-elim x (λ q. ⊎-elim y z q) o
 pub kind-of : (k p : ℕ) → Kind k p (setterFor k p)
 kind-of zero p = wrong (no-kind refl) refl
 kind-of (suc zero) p = exact-kind 1 p DcBlocker (omega arith) (omega arith) (none-of 1 (λ e. omega arith) (λ e. omega arith) (λ e. omega arith)) refl refl (λ x. refl)
-kind-of (suc (suc zero)) p = approximated-kind 2 OnePole (omega arith) (omega arith) (inl refl) (λ q. refl) (λ q. refl) (λ q x. refl) p
-kind-of (suc (suc (suc zero))) p = approximated-kind 3 SvfFrequency (omega arith) (omega arith) (inr (inl refl)) (λ q. refl) (λ q. refl) (λ q x. refl) p
+kind-of (suc (suc zero)) p = approximated-kind 2 OnePole (omega arith) (omega arith) (inl refl) (λ q. refl) (λ q. refl) (λ q x. by-setter x q) p
+kind-of (suc (suc (suc zero))) p = approximated-kind 3 SvfFrequency (omega arith) (omega arith) (inr (inl refl)) (λ q. refl) (λ q. refl) (λ q x. by-setter x q) p
 kind-of (suc (suc (suc (suc zero)))) p = exact-kind 4 p SvfCoefficients (omega arith) (omega arith) (none-of 4 (λ e. omega arith) (λ e. omega arith) (λ e. omega arith)) refl refl (λ x. refl)
-kind-of (suc (suc (suc (suc (suc zero))))) p = approximated-kind 5 NaiveSvf (omega arith) (omega arith) (inr (inr refl)) (λ q. refl) (λ q. refl) (λ q x. refl) p
+kind-of (suc (suc (suc (suc (suc zero))))) p = approximated-kind 5 NaiveSvf (omega arith) (omega arith) (inr (inr refl)) (λ q. refl) (λ q. refl) (λ q x. by-setter x q) p
 kind-of (suc (suc (suc (suc (suc (suc zero)))))) p = exact-kind 6 p ModifiedSvf (omega arith) (omega arith) (none-of 6 (λ e. omega arith) (λ e. omega arith) (λ e. omega arith)) refl refl (λ x. refl)
 kind-of (suc (suc (suc (suc (suc (suc (suc zero))))))) p = exact-kind 7 p CrossoverSvf (omega arith) (omega arith) (none-of 7 (λ e. omega arith) (λ e. omega arith) (λ e. omega arith)) refl refl (λ x. refl)
 kind-of (suc (suc (suc (suc (suc (suc (suc (suc k)))))))) p = wrong (past-kinds (omega arith)) refl

@@ -1,4 +1,5 @@
 pub mod Kind
 pub mod Refusal
+pub mod Setters
 pub mod Sheet
 pub mod Rows

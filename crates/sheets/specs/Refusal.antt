@@ -4,6 +4,7 @@ use mathlib.Core.Bool.{cond}
 use lib.Dec.{eqb, ltb}
 use Rattle.filter_core.specs.Arithmetic.{word}
 use Rattle.filter_core.specs.Refusal.{frequencyRefusal}
+use Rattle.filter_core.specs.declared.FrequencyApproximation.{FrequencyApproximation}
 use Rattle.words.specs.Word.{otherNan}
 use Rattle.filter_core.specs.Rows.{_then_}
 use Rattle.sheets.specs.Kind.{setterOf, kindRefusal}
@@ -34,13 +35,17 @@ wordRefusal u k w = cond (ltb k u) (cond (otherNan w) 4 0) (cond (eqb w 0) 0 4)
 abbrev pub wordsRefusal : ℕ → Entry → ℕ
 wordsRefusal u t = wordRefusal u 0 (t .a) then wordRefusal u 1 (t .b) then wordRefusal u 2 (t .c)
 
--- Exact with f below 0, where a is an f
+-- the word a as an f
+abbrev pub wordFrequencyRefusal : ℕ → FrequencyApproximation → ℕ
+wordFrequencyRefusal a p = frequencyRefusal (word a) p
+
+-- a is an f where the setter takes an approximation
 abbrev pub settingRefusal : Setter → ℕ → ℕ
 settingRefusal DcBlocker a = 0
-settingRefusal (OnePole p) a = frequencyRefusal (word a) p
-settingRefusal (SvfFrequency p) a = frequencyRefusal (word a) p
+settingRefusal (OnePole p) a = wordFrequencyRefusal a p
+settingRefusal (SvfFrequency p) a = wordFrequencyRefusal a p
 settingRefusal SvfCoefficients a = 0
-settingRefusal (NaiveSvf p) a = frequencyRefusal (word a) p
+settingRefusal (NaiveSvf p) a = wordFrequencyRefusal a p
 settingRefusal ModifiedSvf a = 0
 settingRefusal CrossoverSvf a = 0
 settingRefusal Unknown a = 0

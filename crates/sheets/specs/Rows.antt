@@ -5,10 +5,11 @@ use mathlib.Core.Path.{_≡_}
 use mathlib.Core.Bool.{true}
 use mathlib.Core.List.{List, [], _∷_}
 use mathlib.Core.Logic.{_⊎_}
-use lib.Ieee.{binary32, isNan, lt, toBits}
+use lib.Ieee.{binary32, isNan, toBits}
 use lib.ListN.{length, getD}
-use Rattle.filter_core.specs.Arithmetic.{word, zeroᶠ}
-use Rattle.filter_core.specs.Rows.{First, Only}
+use Rattle.filter_core.specs.Arithmetic.{word}
+use Rattle.filter_core.specs.Rows.{First, Only, FrequencyCase}
+use Rattle.filter_core.specs.declared.FrequencyApproximation.the-variants.{Exact}
 use Rattle.sheets.specs.Sheet.{entriesOf, Sized, entryIn, wordAt, checkOf, checkEntryOf, lookupOf}
 use Rattle.sheets.specs.declared.entry.Entry.{Entry}
 
@@ -33,11 +34,11 @@ pub data WordsWrong (u : ℕ) (t : Entry) : Type 0 where
   wrong-b : WordWrong u 1 (t .b) → WordsWrong u t
   wrong-c : WordWrong u 2 (t .c) → WordsWrong u t
 
--- `frequency`: Exact with f below 0
+-- `frequency`: what Exact refuses in a setter
 pub record FrequencyWrong (kind approximation a : ℕ) : Type 0 where
   pub takes-f : (kind ≡ 2) ⊎ ((kind ≡ 3) ⊎ (kind ≡ 5))
   pub exact : approximation ≡ 0
-  pub below : lt (word a) zeroᶠ ≡ true
+  pub refused : FrequencyCase (word a) Exact 11
 
 -- kind byte = kind + 16 * approximation
 pub data EntryCase (t : Entry) : ℕ → Type 0 where

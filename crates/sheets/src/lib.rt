@@ -12,6 +12,7 @@ pub use refusal::lookup;
 pub use setter::Setter;
 pub use setter::setter_of;
 ghost use Rattle.sheets.specs.Rows.{CheckByRows, WordsReturn};
+ghost use Rattle.sheets.specs.Setters.{AsSetters};
 
 // `check` and `check_entry` answer each number in its row's case of the refusal table, and in no other.
 pub fn check_by_rows()
@@ -21,4 +22,9 @@ pub fn check_by_rows()
 // Every word of a sheet comes back when converted to binary32 and back.
 pub fn words_return()
     ensures { λ _. ⌜ WordsReturn ⌝ }
+{}
+
+// A sheet's 11 is the setter's: an entry that is right else is refused exactly as its setter refuses it.
+pub fn as_setters()
+    ensures { λ _. ⌜ AsSetters ⌝ }
 {}

@@ -3,10 +3,8 @@
 ghost use mathlib.Core.Path.{_≡_};
 ghost use Prim.Native.Nat.{_+_, _*_, _<_};
 ghost use lib.ListN.{length};
-ghost use Rattle.filter_core.specs.Arithmetic.{word};
-ghost use Rattle.filter_core.specs.Refusal.{frequencyRefusal};
 ghost use Rattle.sheets.specs.Kind.{kindRefusal};
-ghost use Rattle.sheets.specs.Refusal.{firstRefusal, used, wordRefusal, wordsRefusal, settingRefusal, entryRefusal};
+ghost use Rattle.sheets.specs.Refusal.{firstRefusal, used, wordRefusal, wordsRefusal, wordFrequencyRefusal, settingRefusal, entryRefusal};
 ghost use Rattle.sheets.specs.Sheet.{entriesOf, settingAt, Sized, sizeRefusal, refusalAt, checkOf, entryNumberRefusal, checkEntryOf, lookupOf};
 use crate::entry::Entry;
 use crate::entry::entry_of;
@@ -55,7 +53,7 @@ fn word_refusal(used: u8, k: u8, w: u32) -> u8
 }
 
 fn frequency_refusal(a: u32, approximation: FrequencyApproximation) -> u8
-    ensures { λ r. ⌜ r ≡ frequencyRefusal (word a) approximation ⌝ }
+    ensures { λ r. ⌜ r ≡ wordFrequencyRefusal a approximation ⌝ }
 {
     filter_core::frequency_refusal(words::word_to_f32(a), approximation)
 }

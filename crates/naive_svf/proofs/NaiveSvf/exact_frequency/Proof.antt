@@ -7,5 +7,4 @@ exact-frequency-spec =
     tie.close
     (tie.spec
     (λ c κs. search needs)
-    (λ c κs. search needs)
-    (λ c. rw (c .sine-series .ensures, c .before .clip-at .ensures)))
+    (λ c. rw (c .sine-mirrored .ensures)))

@@ -1,0 +1,24 @@
+-- A sheet's 11 is the setter's: `check` and the setters go by one refusal.
+use Prim.Native.Nat.{ℕ}
+use mathlib.Core.Path.{_≡_}
+use Rattle.filter_core.specs.Arithmetic.{word}
+use Rattle.filter_core.specs.Refusal.{frequencyRefusal}
+use Rattle.filter_core.specs.declared.FrequencyApproximation.{FrequencyApproximation}
+use Rattle.sheets.specs.Kind.{setterOf}
+use Rattle.sheets.specs.Refusal.{used, wordsRefusal, entryRefusal}
+use Rattle.sheets.specs.declared.entry.Entry.{Entry}
+use Rattle.sheets.specs.declared.setter.Setter.{Setter}
+use Rattle.sheets.specs.declared.setter.Setter.the-variants.{OnePole, SvfFrequency, NaiveSvf}
+
+-- the setters that take a frequency, and with it an approximation: set_f and both set_f_q
+pub data TakesF : Setter → FrequencyApproximation → Type 0 where
+  one-pole : {p : FrequencyApproximation} → TakesF (OnePole p) p
+  svf : {p : FrequencyApproximation} → TakesF (SvfFrequency p) p
+  naive : {p : FrequencyApproximation} → TakesF (NaiveSvf p) p
+
+pub record AsSetters : Type 0 where
+  -- an entry that is right in its kind and its words gets the number that its setter answers for its f
+  pub same : (t : Entry) (p : FrequencyApproximation) → TakesF (setterOf (t .kind)) p → wordsRefusal (used (setterOf (t .kind))) t ≡ 0
+      → entryRefusal t ≡ frequencyRefusal (word (t .a)) p
+  -- so no setter refuses an entry of a sheet
+  pub taken : (t : Entry) (p : FrequencyApproximation) → TakesF (setterOf (t .kind)) p → entryRefusal t ≡ 0 → frequencyRefusal (word (t .a)) p ≡ 0
