@@ -1,5 +1,5 @@
 
-// Document 01's series, which stand for the two calls that filter.rs has no body for.
+// The series of documents 01 and 02 c, which stand for the two calls that filter.rs has no body for.
 mod series {
     const M_PI_F: f32 = f32::from_bits(0x40490FDB);
 
@@ -13,8 +13,7 @@ mod series {
                         + y * (0.0245650893 + y * (0.0029005250 + y * 0.0095168091))))))
     }
 
-    #[inline]
-    pub fn tangent(f: f32) -> f32 {
+    fn tangent_from_zero(f: f32) -> f32 {
         if f <= 0.25 {
             t(M_PI_F * f)
         } else {
@@ -23,13 +22,31 @@ mod series {
     }
 
     // Abramowitz and Stegun 4.3.97.
-    #[inline]
-    pub fn sine(f: f32) -> f32 {
+    fn sine_from_zero(f: f32) -> f32 {
         let x = M_PI_F * f;
         let y = x * x;
         x * (1.0
             + y * (-0.1666666664
                 + y * (0.0083333315
                     + y * (-0.0001984090 + y * (0.0000027526 + y * -0.0000000239)))))
+    }
+
+    // Document 02 c: both are odd.
+    fn odd(g: fn(f32) -> f32, f: f32) -> f32 {
+        if f < 0.0 {
+            -g(-f)
+        } else {
+            g(f)
+        }
+    }
+
+    #[inline]
+    pub fn tangent(f: f32) -> f32 {
+        odd(tangent_from_zero, f)
+    }
+
+    #[inline]
+    pub fn sine(f: f32) -> f32 {
+        odd(sine_from_zero, f)
     }
 }

@@ -1,6 +1,6 @@
 -- A function that is odd by a test of its frequency is odd, and so is a multiple of it. Assumes nothing.
 use Prim.Native.Nat.{ℕ, zero, suc, _*_, _^_, _+_}
-use mathlib.Core.Path.{_≡_, refl, sym}
+use mathlib.Core.Path.{_≡_, refl, sym, ap, _∙_}
 use mathlib.Core.Bool.{Bool, true, false, not, cond}
 use borrow.Author.Needs.{needs}
 use borrow.Author.Tests.{ltb-true, le-ltb}
@@ -61,7 +61,7 @@ times-neg f (fin s m e) (fin t n d) = rw (unlike-not s t) (round-neg f (unlike s
 
 module _ (g : Float → Float) where
   pub mirrored : (f : Float) {v w : Float} → lt f zeroᶠ ≡ true → w ≡ g (negᶠ f) → v ≡ negᶠ w → v ≡ odd g f
-  mirrored f e p q = rw (e, ← p) q
+  mirrored f e p q = rw e (q ∙ ap negᶠ p)
 
   pub straight : (f : Float) {v : Float} → lt f zeroᶠ ≡ false → v ≡ g f → v ≡ odd g f
   straight f e p = rw e p

@@ -23,8 +23,12 @@ sineSeries x = x *ᶠ horner (x *ᶠ x) sineRow
 abbrev pub sineExact : Float → Float
 sineExact f = sineSeries (πᶠ *ᶠ clipAt (word 0x3efe_76c9) f)
 
+-- and by 02 c below 0
+abbrev pub sineMirrored : Float → Float
+sineMirrored f = odd sineExact f
+
 abbrev pub naiveExact : Float → Float
-naiveExact f = twoᶠ *ᶠ odd sineExact f
+naiveExact f = twoᶠ *ᶠ sineMirrored f
 
 -- clipped at 0.158
 abbrev pub naiveLinear : Float → Float

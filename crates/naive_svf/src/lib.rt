@@ -6,8 +6,7 @@ ghost use mathlib.Core.Path.{_≡_};
 ghost use Prim.Native.Nat.{_<_};
 ghost use Rattle.filter_core.specs.Buffer.{Filtered, within, each, puts, putsDue};
 ghost use Rattle.filter_core.specs.Refusal.{Answered, frequencyRefusal, unlessRefused};
-ghost use Rattle.filter_core.specs.Odd.{odd};
-ghost use Rattle.naive_svf.specs.Sine.{clipAt, sineSeries, sineExact, naiveExact, naiveLinear, naiveFrequency, SineIsOdd};
+ghost use Rattle.naive_svf.specs.Sine.{clipAt, sineSeries, sineExact, sineMirrored, naiveExact, naiveLinear, naiveFrequency, SineIsOdd};
 ghost use Rattle.naive_svf.specs.NaiveSvf.{naiveNew, naiveReset, naiveSetFQ, naiveInit};
 ghost use Rattle.naive_svf.specs.NaiveSvf.{naiveNormalized, naiveLow, naiveBand, naiveHigh, naiveNext, naiveOut};
 
@@ -107,7 +106,7 @@ impl NaiveSvf {
 
     // The same from 0 up, and mirrored below.
     fn sine_mirrored(f: f32) -> f32
-        ensures { λ r. ⌜ r ≡ odd sineExact f ⌝ }
+        ensures { λ r. ⌜ r ≡ sineMirrored f ⌝ }
     {
         if f < 0.0 {
             -Self::sine_exact(-f)

@@ -2,13 +2,12 @@
 use mathlib.Core.Path.{_≡_}
 use lib.Ieee.{Float}
 use borrow.Author.Needs.{needs}
-use Rattle.filter_core.specs.Odd.{odd}
 use Rattle.filter_core.specs.declared.FrequencyApproximation.{FrequencyApproximation}
 use Rattle.filter_core.specs.declared.FrequencyApproximation.the-variants.{Exact, Accurate, Fast, Dirty}
-use Rattle.one_pole.specs.Tangent.{tanExact, tanDirty, tanFast, tanAccurate, tanOf}
+use Rattle.one_pole.specs.Tangent.{tanMirrored, tanDirty, tanFast, tanAccurate, tanOf}
 
 module _ (f : Float) {v : Float} {a : FrequencyApproximation} where
-  pub by-exact : a ≡ Exact → v ≡ odd tanExact f → v ≡ tanOf f a
+  pub by-exact : a ≡ Exact → v ≡ tanMirrored f → v ≡ tanOf f a
   by-exact e v = rw e v
 
   pub by-accurate : a ≡ Accurate → v ≡ tanAccurate f → v ≡ tanOf f a

@@ -31,6 +31,10 @@ tangent f = cond (le f (word 0x3e80_0000)) (tanSeries (πᶠ *ᶠ f)) (oneᶠ /�
 abbrev pub tanExact : Float → Float
 tanExact f = tangent (clip f)
 
+-- and by 02 c below 0
+abbrev pub tanMirrored : Float → Float
+tanMirrored f = odd tanExact f
+
 -- ---- the source's polynomials
 
 abbrev π² : Float
@@ -90,7 +94,7 @@ tanAccurate f =
     f *ᶠ (πᶠ +ᶠ y *ᶠ (accurateA +ᶠ y *ᶠ (accurateB +ᶠ y *ᶠ (accurateC +ᶠ y *ᶠ (accurateD +ᶠ y *ᶠ accurateE)))))
 
 abbrev pub tanOf : Float → FrequencyApproximation → Float
-tanOf f Exact = odd tanExact f
+tanOf f Exact = tanMirrored f
 tanOf f Accurate = tanAccurate f
 tanOf f Fast = tanFast f
 tanOf f Dirty = tanDirty f

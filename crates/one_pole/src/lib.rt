@@ -5,8 +5,7 @@ use filter_core::FrequencyApproximation;
 ghost use mathlib.Core.Path.{_≡_};
 ghost use Rattle.filter_core.specs.Refusal.{frequencyRefusal, unlessRefused};
 ghost use Rattle.filter_core.specs.Arithmetic.{zeroᶠ};
-ghost use Rattle.filter_core.specs.Odd.{odd};
-ghost use Rattle.one_pole.specs.Tangent.{tanSeries, tangent, tanExact, tanDirty, tanFast, tanAccurate, tanOf, TangentIsOdd};
+ghost use Rattle.one_pole.specs.Tangent.{tanSeries, tangent, tanExact, tanMirrored, tanDirty, tanFast, tanAccurate, tanOf, TangentIsOdd};
 ghost use Rattle.one_pole.specs.OnePole.{onePoleNew, onePoleInit, onePoleReset, onePoleSetG, onePoleSetF, onePoleNext, onePoleOut};
 
 pub struct OnePole {
@@ -138,7 +137,7 @@ impl OnePole {
 
     // The same from 0 up, and mirrored below.
     fn tan_mirrored(f: f32) -> f32
-        ensures { λ r. ⌜ r ≡ odd tanExact f ⌝ }
+        ensures { λ r. ⌜ r ≡ tanMirrored f ⌝ }
     {
         if f < 0.0 {
             -Self::tan_exact(-f)

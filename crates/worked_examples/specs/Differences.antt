@@ -80,8 +80,8 @@ pub record Differences : Type 0 where
   -- CrossoverSvf: the reverse
   pub crossover-reset-clears : crossoverOut BandPass (crossoverReset crossoverAfterOne) zeroᶠ ≡ zeroᶠ
   pub crossover-set-keeps : crossoverOut BandPass (crossoverSetFFq crossoverAfterOne halfᶠ halfᶠ) zeroᶠ ≡ quarterᶠ
-  -- refusals that the source has not: a step of 0, and Exact below 0, where -0.0 is not below
+  -- refusals that the source has not: a step of 0, and Exact below -0.497, which itself is taken
   pub step-zero : stepRefusal 0 ≡ 10
-  pub exact-below-zero : frequencyRefusal (word 0x8000_0001) Exact ≡ 11
-  pub exact-at-minus-zero : frequencyRefusal (negᶠ zeroᶠ) Exact ≡ 0
-  pub accurate-below-zero : frequencyRefusal (word 0x8000_0001) Accurate ≡ 0
+  pub exact-below-lowest : frequencyRefusal (word 0xbefe_76ca) Exact ≡ 11
+  pub exact-at-lowest : frequencyRefusal (word 0xbefe_76c9) Exact ≡ 0
+  pub accurate-below-lowest : frequencyRefusal (word 0xbefe_76ca) Accurate ≡ 0

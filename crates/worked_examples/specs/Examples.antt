@@ -1,10 +1,10 @@
--- The worked examples of document 01, and one for a request of 02, a row each, about the definitions that the contracts cite.
+-- The worked examples of document 01, and those for requests of 02, a row each, about the definitions that the contracts cite.
 -- An output buffer is lent full of `kept`, so that the places that a form leaves alone show.
 use mathlib.Core.Path.{_≡_}
 use Prim.Native.Nat.{ℕ}
 use mathlib.Core.List.{List, [], _∷_}
 use lib.Ieee.{Float, nan}
-use Rattle.filter_core.specs.Arithmetic.{word, zeroᶠ, halfᶠ, oneᶠ}
+use Rattle.filter_core.specs.Arithmetic.{word, zeroᶠ, halfᶠ, oneᶠ, negᶠ}
 use Rattle.filter_core.specs.Buffer.{Filtered, bufferAfter, each, puts, eachDue, putsDue}
 use Rattle.filter_core.specs.declared.FilterMode.the-variants.{LowPass, BandPass, BandPassNormalized, HighPass}
 use Rattle.filter_core.specs.declared.FrequencyApproximation.the-variants.{Exact}
@@ -93,6 +93,13 @@ runBand x = at 0 (run (Plain BandPass) (x ∷ []) (kept ∷ []))
 abbrev pub twoMotifs : List Call
 twoMotifs = opening modifiedSheet ∷ loading 0 0 ∷ runBand oneᶠ ∷ at 0 rest ∷ runBand zeroᶠ ∷ []
 
+-- a sheet of one entry, a one-pole filter in Exact, by the lowest byte of its f: c9 is -0.497, and ca the number next below
+abbrev pub mirrorSheet : ℕ → List ℕ
+mirrorSheet b = 0x01 ∷ 0x00 ∷ 0x02 ∷ b ∷ 0x76 ∷ 0xfe ∷ 0xbe ∷ zeroBytes 8
+
+abbrev pub twoMirrors : List Call
+twoMirrors = opening (mirrorSheet 0xc9) ∷ opening (mirrorSheet 0xca) ∷ []
+
 -- ---- the table
 
 pub record WorkedExamples : Type 0 where
@@ -169,3 +176,8 @@ pub record WorkedExamples : Type 0 where
       ∷ acted (answered 0)
       ∷ acted (ran 0 (zeroᶠ ∷ []))
       ∷ []
+  -- document 02, c: Exact at -0.3 is -1.376382 and the sine's -1.6180341; -0.0 has its own value; a sheet may go down to -0.497
+  pub tangent-mirrored : tanOf (word 0xbe99_999a) Exact ≡ word 0xbfb0_2d49
+  pub sine-mirrored : naiveFrequency (word 0xbe99_999a) Exact ≡ word 0xbfcf_1bbe
+  pub tangent-at-minus-zero : tanOf (negᶠ zeroᶠ) Exact ≡ negᶠ zeroᶠ
+  pub mirror-replies : repliesTo noHistories twoMirrors ≡ plain 0 ∷ plain 11 ∷ []

@@ -2,6 +2,7 @@
 
 use crate::filters::type_of;
 use crate::numbers::Numbers;
+use crate::sheets::EXACT_LOWEST;
 
 pub fn hex(bytes: &[u8]) -> String {
     if bytes.is_empty() {
@@ -36,6 +37,24 @@ const SPECIAL: [u32; 20] = [
     0x3EFE_76C9, // 0.497, where Exact clips
     0x3E21_CAC1, // 0.158, where the naive filter clips
     0x3E80_0000, // 0.25, where the tangent turns
+];
+
+/// Frequencies below 0 where Exact changes its mind, and what stands beside them.
+pub const MIRRORED: [u32; 14] = [
+    0xBEFE_76C8,
+    0xBEFE_76C9, // -0.497, the lowest that it takes
+    0xBEFE_76CA,
+    0xBE7F_FFFF,
+    0xBE80_0000, // -0.25, where the tangent turns
+    0xBE80_0001,
+    0xBE21_CAC0,
+    0xBE21_CAC1, // -0.158
+    0xBE21_CAC2,
+    0x8000_0000, // -0.0, which is not below 0
+    0x8000_0001, // the smallest numbers below it
+    0x8000_0002,
+    0x807F_FFFF,
+    0x8080_0000,
 ];
 
 /// What the generator knows of a head, to give it calls that are accepted as often as not.
@@ -194,16 +213,27 @@ impl Writer {
     }
 
     // A word of an entry that is used.
-    fn setting(&mut self, positive: bool) -> u32 {
+    fn setting(&mut self) -> u32 {
         let w = match self.numbers.weighted(&[75, 15, 10]) {
             0 => (self.numbers.below(1000) as f32 / 1600.0).to_bits(),
             1 => self.numbers.pick(&SPECIAL),
             _ => self.numbers.next() as u32,
         };
-        let x = f32::from_bits(w);
-        if x.is_nan() {
+        if f32::from_bits(w).is_nan() {
             0x7FC0_0000
-        } else if positive && x < 0.0 {
+        } else {
+            w
+        }
+    }
+
+    // A frequency, one in three from those below 0. In Exact it is not below what is taken.
+    fn frequency(&mut self, exact: bool) -> u32 {
+        let w = match self.numbers.weighted(&[4, 1, 1]) {
+            0 => self.setting(),
+            1 => self.numbers.pick(&MIRRORED),
+            _ => (self.numbers.below(1000) as f32 / -2000.0).to_bits(),
+        };
+        if exact && f32::from_bits(w) < EXACT_LOWEST {
             w & 0x7FFF_FFFF
         } else {
             w
@@ -211,10 +241,12 @@ impl Writer {
     }
 
     fn entry(&mut self, kind: u8) -> [u32; 3] {
-        let exact = kind < 16 && [2, 3, 5].contains(&kind);
-        let a = self.setting(exact);
-        let b = self.setting(false);
-        let c = self.setting(false);
+        let a = match kind % 16 {
+            2 | 3 | 5 => self.frequency(kind < 16),
+            _ => self.setting(),
+        };
+        let b = self.setting();
+        let c = self.setting();
         match kind % 16 {
             1 | 2 => [a, 0, 0],
             4 => [a, b, c],
@@ -270,7 +302,13 @@ impl Writer {
             7 => sheet[setting + 8 + self.numbers.below(4) as usize] ^= 1 << self.numbers.below(8),
             8 => {
                 sheet[2 + entry] = self.numbers.pick(&[2, 3, 5]);
-                sheet[setting + 3] |= 0x80;
+                let f: u32 = match self.numbers.below(4) {
+                    0 => 0xBEFE_76CA,
+                    1 => 0xBEFE_76C9,
+                    2 => 0xBF00_0000,
+                    _ => self.numbers.next() as u32 | 0x8000_0000,
+                };
+                sheet[setting..setting + 4].copy_from_slice(&f.to_le_bytes());
             }
             _ => {
                 let place = self.numbers.below(sheet.len() as u64) as usize;
@@ -610,24 +648,29 @@ pub fn short(length: u32) -> impl Iterator<Item = Vec<u8>> {
     })
 }
 
-/// Every change of one byte of a valid sheet of each kind byte, and of one with all seven kinds: every value at every place, every
-/// truncation, and every byte behind. Each goes through check, lookup and open, and the entry is loaded and shown.
+/// Every change of one byte of a valid sheet of each kind byte, of one with all seven kinds, and of those in Exact at -0.497, -0.25 and -0.0:
+/// every value at every place, every truncation, and every byte behind. Each goes through check, lookup and open, and the entry is loaded
+/// and shown.
 pub fn sheet_changes() -> impl Iterator<Item = Vec<u8>> {
-    let valid = |kinds: &[u8]| {
+    let valid = |kinds: &[u8], f: u32| {
         let mut sheet = vec![kinds.len() as u8, 0];
         sheet.extend(kinds);
         for kind in kinds {
             let words: [u32; 3] = match kind % 16 {
-                1 | 2 => [0x3E4C_CCCD, 0, 0],
+                1 | 2 => [f, 0, 0],
                 4 => [0x3F80_0000, 0x3F00_0000, 0x3E80_0000],
-                _ => [0x3E4C_CCCD, 0x3F00_0000, 0],
+                _ => [f, 0x3F00_0000, 0],
             };
             words.iter().for_each(|w| sheet.extend(w.to_le_bytes()));
         }
         sheet
     };
-    let mut sheets: Vec<Vec<u8>> = KIND_BYTES.iter().map(|k| valid(&[*k])).collect();
-    sheets.push(valid(&[1, 2, 3, 4, 5, 6, 7]));
+    let fifth = 0x3E4C_CCCD;
+    let mut sheets: Vec<Vec<u8>> = KIND_BYTES.iter().map(|k| valid(&[*k], fifth)).collect();
+    sheets.push(valid(&[1, 2, 3, 4, 5, 6, 7], fifth));
+    for kind in [2, 3, 5] {
+        sheets.extend([0xBEFE_76C9, 0xBE80_0000, 0x8000_0000].map(|f| valid(&[kind], f)));
+    }
     sheets.into_iter().flat_map(|sheet| {
         let entries = sheet[0];
         let mut changed = Vec::new();
@@ -723,8 +766,9 @@ pub fn sample(seed: u64) -> Vec<u8> {
         "drop 2 4",
         "run 2 decimate:low:1 - -",
         "run 2 stride:low:0 - -",
-        "open 010002cdccccbd0000000000000000",
-        "open 010012cdccccbd0000000000000000",
+        "open 010002ca76febe0000000000000000",
+        "open 010002c976febe0000000000000000",
+        "open 010012ca76febe0000000000000000",
         "write 00",
         "check 0100010000003f0000000000000000 0",
         "check 0100010000003f0000000000000000 1",
@@ -771,6 +815,15 @@ pub fn sample(seed: u64) -> Vec<u8> {
         text.push_str(&format!(
             "run {h} plain:band 3f800000 00000000\nrest {h}\nrun {h} plain:band 00000000 3f800000\nhead {h}\n"
         ));
+    }
+    text.push_str("\n# Exact below 0.\n");
+    for kind in [2u8, 3, 5] {
+        for f in MIRRORED {
+            let b: u32 = if kind == 2 { 0 } else { 0x3F00_0000 };
+            let mut sheet = vec![1, 0, kind];
+            [f, b, 0].iter().for_each(|w| sheet.extend(w.to_le_bytes()));
+            text.push_str(&format!("open {}\nload 0 0\nhead 0\n", hex(&sheet)));
+        }
     }
     text.push_str("\n# Bad lines.\n");
     for _ in 0..30 {

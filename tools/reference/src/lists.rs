@@ -162,6 +162,12 @@ impl Frame {
         self.library[2 + entry as usize]
     }
 
+    /// Whether an entry takes a frequency below 0 in Exact.
+    pub fn is_mirrored(&self, entry: u64) -> bool {
+        let a = f32::from_bits(sheets::word(&self.library, entry as usize, 0));
+        [2, 3, 5].contains(&self.kind_byte(entry)) && a < 0.0
+    }
+
     pub fn open(&mut self, sheet: &[u8]) -> u8 {
         let number = sheets::check(sheet);
         if number == 0 {

@@ -1,4 +1,4 @@
-//! The check of a sheet, from document 01's tables.
+//! The check of a sheet, from document 01's tables with what 02 changes in them.
 
 /// A binary32 word of an entry: 0 for a, 1 for b, 2 for c.
 pub fn word(sheet: &[u8], entry: usize, k: usize) -> u32 {
@@ -28,6 +28,9 @@ const KINDS: [(u8, usize, bool); 7] = [
     (7, 2, false), // CrossoverSvf::set_f_fq
 ];
 
+/// The lowest frequency that Exact takes (02 c).
+pub const EXACT_LOWEST: f32 = -0.497;
+
 /// The number that opening the sheet gives, 0 if it is accepted.
 pub fn check(sheet: &[u8]) -> u8 {
     if sheet.len() < 2 {
@@ -52,7 +55,8 @@ pub fn check(sheet: &[u8]) -> u8 {
                 return 4;
             }
         }
-        if approximates && approximation == 0 && f32::from_bits(word(sheet, entry, 0)) < 0.0 {
+        let a = f32::from_bits(word(sheet, entry, 0));
+        if approximates && approximation == 0 && a < EXACT_LOWEST {
             return 11;
         }
     }

@@ -1,7 +1,7 @@
 //! The text of calls: a line in, its answer out.
 
 use crate::counts::Counts;
-use crate::filters::{Filter, Form, Mode};
+use crate::filters::{type_of, Filter, Form, Mode};
 use crate::lists::Frame;
 use crate::sheets;
 
@@ -211,6 +211,9 @@ fn call(frame: &mut Frame, line: &[u8], counts: &mut Counts, to: &mut String) ->
             if refusal == 0 {
                 let byte = frame.kind_byte(entry);
                 counts.add(&format!("kind byte {byte}"), 1);
+                if frame.is_mirrored(entry) {
+                    counts.add(&format!("mirrored load {}", type_of(byte % 16)), 1);
+                }
             }
             numbered("load", refusal, counts, to);
         }

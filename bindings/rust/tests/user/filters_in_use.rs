@@ -184,7 +184,7 @@ pub const MODES: [FilterMode; 4] = [
     FilterMode::HighPass,
 ];
 
-/// What every method answers and writes, over some input; f is not below 0 and the step is not 0.
+/// What every method answers and writes, over some input; f is not below -0.497 and the step is not 0.
 pub fn answers(
     input: &[f32],
     f: f32,

@@ -33,9 +33,9 @@ computed =
       crossover-reset-clears = refl;
       crossover-set-keeps = refl;
       step-zero = refl;
-      exact-below-zero = refl;
-      exact-at-minus-zero = refl;
-      accurate-below-zero = refl;
+      exact-below-lowest = refl;
+      exact-at-lowest = refl;
+      accurate-below-lowest = refl;
     }
 
 pub differences-spec : {M : Type 1} → statement M

@@ -1,5 +1,5 @@
 use mathlib.Core.Path.{refl}
-use lib.Ieee.{ofBits, add, sub, mul, neg, lt, isNan}
+use lib.Ieee.{ofBits, add, sub, mul, div, neg, lt, le, isNan}
 use Rattle.svf.specs.Svf.{svfNext, svfOut, svfMixed}
 use Rattle.naive_svf.specs.NaiveSvf.{naiveLow, naiveHigh, naiveNext, naiveOut}
 use Rattle.modified_svf.specs.ModifiedSvf.{modifiedNext, modifiedOut}
@@ -17,7 +17,7 @@ use Rattle.worked_examples.proofs.worked_examples.Statement.{statement}
 use Rattle.worked_examples.proofs.worked_examples.Tie as tie
 
 computed : WorkedExamples
-unfolding ofBits add sub mul neg lt isNan firstRefusal entryRefusal over zeroBytes rested filterFor through firstOutput repliesTo replyTo advance callNumber typeFrom snapshotFrom svfNext svfOut svfMixed naiveLow naiveHigh naiveNext naiveOut modifiedNext modifiedOut crossoverNext crossoverOut
+unfolding ofBits add sub mul div neg lt le isNan firstRefusal entryRefusal over zeroBytes rested filterFor through firstOutput repliesTo replyTo advance callNumber typeFrom snapshotFrom svfNext svfOut svfMixed naiveLow naiveHigh naiveNext naiveOut modifiedNext modifiedOut crossoverNext crossoverOut
 computed =
     record {
       dc-blocker = refl;
@@ -40,6 +40,10 @@ computed =
       tangent-at-nan = refl;
       sine-at-nan = refl;
       rest-replies = refl;
+      tangent-mirrored = refl;
+      sine-mirrored = refl;
+      tangent-at-minus-zero = refl;
+      mirror-replies = refl;
     }
 
 pub worked-examples-spec : {M : Type 1} → statement M

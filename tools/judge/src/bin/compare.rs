@@ -2,7 +2,7 @@
 //! and the refusals. `compare [--seed N] [--rounds N]`, or `compare --full`: OnePole::tan and the frequency of NaiveSvf at all 2^32 words.
 
 use judge::proved::{self, ffi, Refusal};
-use judge::{bits, oracle, Numbers};
+use judge::{bits, frequency_refusal, oracle, Numbers, MIRRORED};
 use std::collections::BTreeMap;
 use std::time::Instant;
 
@@ -118,15 +118,6 @@ fn number<A>(answer: &Result<A, Refusal>) -> u8 {
     }
 }
 
-// 11 where Exact gets an f below 0.
-fn frequency_refusal(f: f32, approximation: oracle::FrequencyApproximation) -> u8 {
-    if approximation == oracle::FrequencyApproximation::Exact && f < 0.0 {
-        11
-    } else {
-        0
-    }
-}
-
 // A number that names no mode: a byte, one whose low byte would name a mode, what C makes of a negative int, or any.
 fn unknown(n: &mut Numbers) -> u32 {
     match n.below(4) {
@@ -203,28 +194,57 @@ fn dc_blocker(n: &mut Numbers, t: &mut Tally, tame: bool) {
     t.words("the field", &a.fields(), &b.fields());
 }
 
+// A setter that takes a frequency, on both sides: it sets both filters alike, or is refused and leaves ours as it was.
+macro_rules! setter {
+    ($t:ident, $type:ident, $w:ident, $name:literal, $call:ident ($f:expr, $($arg:expr),*), $p:expr, $q:expr) => {{
+        let (mut a, mut b) = pair!($type, $w);
+        let refusal = frequency_refusal($f, $p);
+        $t.at(concat!(stringify!($type), "::", $name), format!("{:?} {:?} {:?}", $w, ($f, $($arg,)*), $p));
+        $t.refusal(refusal, number(&b.$call($f, $($arg,)* $q)));
+        if refusal == 0 {
+            a.$call($f, $($arg,)* $p);
+            $t.words("the field", &a.fields(), &b.fields());
+        } else {
+            $t.stays("the field", &$w, &b.fields());
+        }
+    }};
+}
+
+fn one_pole_at(t: &mut Tally, w: [f32; 3], f: f32, (p, q): Approximations) {
+    t.at("OnePole::tan", format!("{f:?} {p:?}"));
+    let got = proved::OnePole::tan(f, q);
+    t.refusal(frequency_refusal(f, p), number(&got));
+    if let Ok(value) = got {
+        t.words("the value", &[oracle::OnePole::tan(f, p)], &[value]);
+    }
+    setter!(t, OnePole, w, "set_f", set_f(f,), p, q);
+}
+
+fn svf_at(t: &mut Tally, w: [f32; 5], f: f32, resonance: f32, (p, q): Approximations) {
+    setter!(t, Svf, w, "set_f_q", set_f_q(f, resonance), p, q);
+}
+
+fn naive_at(t: &mut Tally, w: [f32; 4], f: f32, resonance: f32, (p, q): Approximations) {
+    setter!(t, NaiveSvf, w, "set_f_q", set_f_q(f, resonance), p, q);
+}
+
+// Every frequency of MIRRORED in every call that takes one.
+fn mirrored(n: &mut Numbers, t: &mut Tally) {
+    for f in MIRRORED.map(f32::from_bits) {
+        for by in APPROXIMATIONS {
+            one_pole_at(t, n.words(true), f, by);
+            svf_at(t, n.words(true), f, n.any(), by);
+            naive_at(t, n.words(true), f, n.any(), by);
+        }
+    }
+}
+
 fn one_pole(n: &mut Numbers, t: &mut Tally, tame: bool) {
     let w = n.words::<3>(tame);
     same!(t, OnePole, w, "init", init());
     same!(t, OnePole, w, "reset", reset());
-    for (p, q) in APPROXIMATIONS {
-        let f = n.any();
-        let refusal = frequency_refusal(f, p);
-        t.at("OnePole::tan", format!("{f:?} {p:?}"));
-        let got = proved::OnePole::tan(f, q);
-        t.refusal(refusal, number(&got));
-        if let Ok(value) = got {
-            t.words("the value", &[oracle::OnePole::tan(f, p)], &[value]);
-        }
-        let (mut a, mut b) = pair!(OnePole, w);
-        t.at("OnePole::set_f", format!("{w:?} {f:?} {p:?}"));
-        t.refusal(refusal, number(&b.set_f(f, q)));
-        if refusal == 0 {
-            a.set_f(f, p);
-            t.words("the field", &a.fields(), &b.fields());
-        } else {
-            t.stays("the field", &w, &b.fields());
-        }
+    for by in APPROXIMATIONS {
+        one_pole_at(t, w, n.setting(), by);
     }
     for (p, q) in MODES {
         let (mut a, mut b) = pair!(OnePole, w);
@@ -267,18 +287,8 @@ fn svf(n: &mut Numbers, t: &mut Tally, tame: bool) {
     t.words("the field", &a.fields(), &b.fields());
     t.at("Svf::g, r, h", format!("{v:?}"));
     t.words("g, r, h", &[c.g(), c.r(), c.h()], &[d.g(), d.r(), d.h()]);
-    for (p, q) in APPROXIMATIONS {
-        let (f, resonance) = (n.any(), n.any());
-        let refusal = frequency_refusal(f, p);
-        let (mut a, mut b) = pair!(Svf, w);
-        t.at("Svf::set_f_q", format!("{w:?} {f:?} {resonance:?} {p:?}"));
-        t.refusal(refusal, number(&b.set_f_q(f, resonance, q)));
-        if refusal == 0 {
-            a.set_f_q(f, resonance, p);
-            t.words("the field", &a.fields(), &b.fields());
-        } else {
-            t.stays("the field", &w, &b.fields());
-        }
+    for by in APPROXIMATIONS {
+        svf_at(t, w, n.setting(), n.any(), by);
     }
     // Settings that a user would have, half of the time.
     let w = if tame && n.below(2) == 0 {
@@ -459,21 +469,8 @@ fn naive(n: &mut Numbers, t: &mut Tally, tame: bool) {
     let (a, b) = pair!(NaiveSvf, w);
     t.at("NaiveSvf::lp, bp", format!("{w:?}"));
     t.words("lp, bp", &[a.lp(), a.bp()], &[b.lp(), b.bp()]);
-    for (p, q) in APPROXIMATIONS {
-        let (f, resonance) = (n.any(), n.any());
-        let refusal = frequency_refusal(f, p);
-        let (mut a, mut b) = pair!(NaiveSvf, w);
-        t.at(
-            "NaiveSvf::set_f_q",
-            format!("{w:?} {f:?} {resonance:?} {p:?}"),
-        );
-        t.refusal(refusal, number(&b.set_f_q(f, resonance, q)));
-        if refusal == 0 {
-            a.set_f_q(f, resonance, p);
-            t.words("the field", &a.fields(), &b.fields());
-        } else {
-            t.stays("the field", &w, &b.fields());
-        }
+    for by in APPROXIMATIONS {
+        naive_at(t, w, n.setting(), n.any(), by);
     }
     for (k, (p, q)) in MODES.into_iter().enumerate() {
         let (mut a, mut b) = pair!(NaiveSvf, w);
@@ -636,11 +633,14 @@ mod on_ours {
 fn user(n: &mut Numbers, t: &mut Tally, tame: bool) {
     let length = n.below(33) as usize;
     let input = n.buffer(length, tame);
-    let (f, resonance, step) = if tame {
-        (n.frequency(), 1.0 + n.frequency(), n.step(length))
+    let (f, resonance) = if tame {
+        (n.frequency(), 1.0 + n.frequency())
     } else {
-        (n.any().abs(), n.any(), n.step(length))
+        (n.setting(), n.any())
     };
+    // Their code would panic at what is refused.
+    let f = if f < -0.497 { -f } else { f };
+    let step = n.step(length);
     for (p, q) in APPROXIMATIONS {
         t.at(
             "a user's code",
@@ -676,6 +676,7 @@ fn random(seed: u64, rounds: u64) {
     };
     news(&mut t);
     signatures(&mut t);
+    mirrored(&mut n, &mut t);
     for round in 0..rounds {
         let tame = round % 2 == 0;
         dc_blocker(&mut n, &mut t, tame);
@@ -697,10 +698,10 @@ fn random(seed: u64, rounds: u64) {
     );
 }
 
-// All words in one approximation: the source's answer, or the refusal where Exact gets an f below 0.
+// All words in one approximation: the source's answer, or the refusal.
 fn every_word(
     name: &str,
-    exact: bool,
+    approximation: oracle::FrequencyApproximation,
     ours: impl Fn(f32) -> Result<f32, Refusal> + Sync,
     theirs: impl Fn(f32) -> f32 + Sync,
 ) -> u64 {
@@ -710,7 +711,7 @@ fn every_word(
         for word in from..to {
             let f = f32::from_bits(word as u32);
             let got = ours(f);
-            let right = if exact && f < 0.0 {
+            let right = if frequency_refusal(f, approximation) != 0 {
                 refused += 1;
                 got == Err(Refusal::Frequency)
             } else {
@@ -740,16 +741,15 @@ fn full() {
     let start = Instant::now();
     let mut total = 0;
     for (p, q) in APPROXIMATIONS {
-        let exact = p == oracle::FrequencyApproximation::Exact;
         total += every_word(
             &format!("OnePole::tan {p:?}"),
-            exact,
+            p,
             |f| proved::OnePole::tan(f, q),
             |f| oracle::OnePole::tan(f, p),
         );
         total += every_word(
             &format!("NaiveSvf::set_f_q {p:?}"),
-            exact,
+            p,
             |f| {
                 let mut s = proved::NaiveSvf::from_fields([0.0; 4]);
                 s.set_f_q(f, 1.0, q)?;

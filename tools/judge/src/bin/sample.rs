@@ -1,7 +1,7 @@
 //! Writes a fixed sample of the source's answers, for every method, mode and approximation, to standard output.
 //! crates/filter_replay/src/main.rt says what a record holds, and crates/filter_replay/src/calls.rt which number a method has.
 
-use judge::{bits, oracle, Numbers};
+use judge::{bits, frequency_refusal, oracle, Numbers};
 use oracle::{CrossoverSvf, DcBlocker, ModifiedSvf, NaiveSvf, OnePole, Svf};
 use oracle::{FilterMode, FrequencyApproximation};
 use std::io::Write;
@@ -54,8 +54,9 @@ impl Call {
         let (mode, mode_2) = (MODES[self.a], MODES[self.b]);
         let approximation = APPROXIMATIONS[self.a];
         let takes_f = matches!(self.method, 23 | 24 | 37 | 53);
-        if takes_f && approximation == FrequencyApproximation::Exact && p < 0.0 {
-            self.refusal = 11;
+        let refusal = frequency_refusal(p, approximation);
+        if takes_f && refusal != 0 {
+            self.refusal = u32::from(refusal);
             return;
         }
         if matches!(self.method, 132 | 152) && self.step == 0 {
@@ -167,7 +168,7 @@ fn main() {
     let mut n = Numbers(SEED);
     let mut out = std::io::stdout().lock();
     let head = format!(
-        "Answers of filter.rs with the series of document 01, made by: tools/sample (seed {SEED}, {CASES} cases each). \
+        "Answers of filter.rs with the series of documents 01 and 02 c, made by: tools/sample (seed {SEED}, {CASES} cases each). \
          Blocks of 272 bytes; crates/filter_replay/src/main.rt says what they hold."
     );
     out.write_all(format!("{head:<271}\n").as_bytes()).unwrap();
@@ -188,7 +189,7 @@ fn main() {
                     a,
                     b,
                     step: if case == 5 { 0 } else { n.step(8) },
-                    numbers: [(); 3].map(|_| if tame { n.frequency() } else { n.any() }),
+                    numbers: [(); 3].map(|_| if tame { n.frequency() } else { n.setting() }),
                     lengths,
                     refusal: 0,
                     state: n.words(tame),

@@ -16,6 +16,13 @@ const FOLDER: &str = "target/histories";
 /// How often each thing has to have been tried in a random run.
 const LEAST: u64 = 50;
 
+/// Loads of a frequency below 0 in Exact.
+const MIRRORED_LOADS: [&str; 3] = [
+    "mirrored load onepole",
+    "mirrored load svf",
+    "mirrored load naive",
+];
+
 struct Comparison {
     counts: Counts,
     histories: u64,
@@ -163,6 +170,7 @@ fn tried_enough(counts: &Counts) -> bool {
         wanted.extend(["low", "band", "normalized", "high"].map(|m| format!("mode {of} {m}")));
     }
     wanted.extend(histories::KIND_BYTES.map(|k| format!("kind byte {k}")));
+    wanted.extend(MIRRORED_LOADS.map(String::from));
     for call in [
         "open",
         "load",
@@ -207,10 +215,11 @@ fn summary(counts: &Counts) {
         .map(|(_, n)| *n)
         .collect();
     println!(
-        "{} of a run's call, type and form, the rarest {} times; rests of a sample that reset leaves {}; bad lines {}, long lines {}",
+        "{} of a run's call, type and form, the rarest {} times; rests of a sample that reset leaves {}; mirrored loads {}; bad lines {}, long lines {}",
         pairs.len(),
         pairs.iter().min().unwrap_or(&0),
         counts.of("rest of a sample that reset leaves"),
+        MIRRORED_LOADS.iter().map(|load| counts.of(load)).sum::<u64>(),
         counts.of("bad line"),
         counts.of("long line")
     );
