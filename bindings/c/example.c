@@ -95,11 +95,20 @@ int main(void) {
 
     /* refused calls change nothing */
     check("stride 0", svf_process_stride_buffer(svf, impulse, 3, out, 3, 0, MOTIF_LOW_PASS) == MOTIF_STEP);
-    check("f below 0", svf_set_f_q(svf, -0.1f, 1, MOTIF_EXACT) == MOTIF_FREQUENCY);
+    const float lowest = -0.497f, below = -0.49700004f; /* the number next below */
+    check("f below -0.497", svf_set_f_q(svf, below, 1, MOTIF_EXACT) == MOTIF_FREQUENCY);
     check("all as it was", out[0] == 0.25f && out[1] == 7 && out[2] == 0.625f && svf_g(svf) == 1 && svf_h(svf) == 0.25f);
     const int unknown[] = {4, 255, 256, 259, 65536, INT_MAX, -1, -256, INT_MIN};
     for (size_t k = 0; k < sizeof unknown / sizeof unknown[0]; k++) refuses(unknown[k]);
     takes_no_buffer();
+
+    /* Exact below 0: the negative of the value at -f, down to -0.497 */
+    float up, down, naive_up[4], naive_down[4];
+    check("the tangent, mirrored", one_pole_tan(lowest, MOTIF_EXACT, &down) == MOTIF_OK && one_pole_tan(-lowest, MOTIF_EXACT, &up) == MOTIF_OK && down == -up);
+    check("no tangent below", one_pole_tan(below, MOTIF_EXACT, &down) == MOTIF_FREQUENCY && down == -up);
+    naive_svf_new(naive_up);
+    naive_svf_new(naive_down);
+    check("the sine, mirrored", naive_svf_set_f_q(naive_down, lowest, 1, MOTIF_EXACT) == MOTIF_OK && naive_svf_set_f_q(naive_up, -lowest, 1, MOTIF_EXACT) == MOTIF_OK && naive_down[0] == -naive_up[0]);
 
     /* S5: the high-pass of multimode is inverted */
     float one[1];

@@ -39,7 +39,7 @@ extern "C" {
 enum {
     MOTIF_OK = 0,
     MOTIF_STEP = 10,      /* a stride or a decimation of 0 */
-    MOTIF_FREQUENCY = 11, /* MOTIF_EXACT with a frequency below 0; -0.0 and a NaN are not below */
+    MOTIF_FREQUENCY = 11, /* MOTIF_EXACT with a frequency below -0.497; that number itself and a NaN are not below */
     MOTIF_UNKNOWN = 100   /* a number that names no mode, or no approximation */
 };
 
@@ -52,7 +52,7 @@ enum {
 };
 
 /* An approximation: how a frequency, as a part of the sampling rate, becomes a coefficient. MOTIF_EXACT clips it at 0.497, and takes a NaN
- * for that; naive_svf_set_f_q clips it at 0.158 in the three others. */
+ * for that; below 0, down to -0.497, its value is the negative of that at -f. naive_svf_set_f_q clips it at 0.158 in the three others. */
 enum {
     MOTIF_EXACT = 0,
     MOTIF_ACCURATE = 1,

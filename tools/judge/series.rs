@@ -50,3 +50,25 @@ mod series {
         odd(sine_from_zero, f)
     }
 }
+
+/// The lowest frequency that Exact takes (document 02 c): what is below it has no answer to be compared with.
+pub const EXACT_LOWEST: f32 = -0.497;
+
+/// Frequencies below 0 where Exact changes its mind, and what stands beside them.
+pub const MIRRORED: [u32; 15] = [
+    0xBEFE_76C8,
+    0xBEFE_76C9, // -0.497, the lowest that it takes
+    0xBEFE_76CA,
+    0xBE7F_FFFF,
+    0xBE80_0000, // -0.25, where the tangent turns
+    0xBE80_0001,
+    0xBE21_CAC0,
+    0xBE21_CAC1, // -0.158
+    0xBE21_CAC2,
+    0x8000_0000, // -0.0, which is not below 0
+    0x8000_0001, // the smallest numbers below it
+    0x8000_0002,
+    0x807F_FFFF,
+    0x8080_0000,
+    0xBF00_0000, // -0.5, which is below all
+];

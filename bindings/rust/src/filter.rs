@@ -13,12 +13,12 @@
 //!
 //! | call | panics here | the source, called so |
 //! |---|---|---|
-//! | [`OnePole::tan`], [`OnePole::set_f`], [`Svf::set_f_q`] | `Exact` with f below 0 | does not panic: takes the tangent of a negative angle, and goes on with it |
-//! | [`NaiveSvf::set_f_q`] | `Exact` with f below 0 | does not panic: takes the sine of a negative angle, and goes on with it |
+//! | [`OnePole::tan`], [`OnePole::set_f`], [`Svf::set_f_q`] | `Exact` with f below -0.497 | does not panic: takes the tangent, unclipped, and goes on with it |
+//! | [`NaiveSvf::set_f_q`] | `Exact` with f below -0.497 | does not panic: takes the sine, unclipped, and goes on with it |
 //! | [`Svf::process_stride_buffer`] | a stride of 0 | panics |
 //! | [`NaiveSvf::process_decimate`] | a decimation of 0 | panics where overflow is checked; elsewhere filters every sample and writes the first place only |
 //!
-//! -0.0 and a NaN are not below 0. `Exact` is a series here, and the platform's tangent or sine in the source: the last bits differ. All
+//! -0.497 itself is taken, and a NaN, for 0.497. `Exact` is a series here, and the platform's tangent or sine in the source: the last bits differ. All
 //! else is equal bit for bit, but for the sign and payload of a NaN.
 //!
 //! `OnePole`, `Svf` and `NaiveSvf` have types of their own here, which convert to those at the top of the crate and back. The other three

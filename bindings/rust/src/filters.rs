@@ -33,7 +33,8 @@ pub enum FilterMode {
 /// ```
 #[derive(Debug, Clone, Copy, PartialEq, Eq)]
 pub enum FrequencyApproximation {
-    /// The series of Abramowitz and Stegun. The frequency is clipped at 0.497, and below 0 it is refused.
+    /// The series of Abramowitz and Stegun, and below 0 the negative of the value at -f. The frequency is clipped at 0.497, and below -0.497
+    /// it is refused.
     Exact,
     /// The source's polynomial of degree 11, without one coefficient of its series, as the source has it.
     Accurate,
@@ -137,15 +138,16 @@ impl OnePole {
         unsafe { ffi::one_pole_reset(self.state()) }
     }
 
-    /// tan (π f). `Exact` refuses an f below 0.
+    /// tan (π f). `Exact` refuses an f below -0.497.
     ///
     /// ```
     /// use motif_filters::{FrequencyApproximation, OnePole};
     ///
     /// let t = OnePole::tan(0.25, FrequencyApproximation::Exact)?;
     /// assert!((t - 1.0).abs() < 1e-6);
-    /// assert!(OnePole::tan(-0.25, FrequencyApproximation::Exact).is_err());
-    /// assert!(OnePole::tan(-0.25, FrequencyApproximation::Dirty)? < 0.0);
+    /// assert_eq!(OnePole::tan(-0.25, FrequencyApproximation::Exact)?, -t);
+    /// assert!(OnePole::tan(-0.5, FrequencyApproximation::Exact).is_err());
+    /// assert!(OnePole::tan(-0.5, FrequencyApproximation::Dirty)? < 0.0);
     /// # Ok::<(), motif_filters::Refusal>(())
     /// ```
     #[inline]
@@ -155,7 +157,7 @@ impl OnePole {
         Ok(value)
     }
 
-    /// Sets the frequency; the state stays. `Exact` refuses an f below 0.
+    /// Sets the frequency; the state stays. `Exact` refuses an f below -0.497.
     #[inline]
     pub fn set_f(&mut self, f: f32, approximation: FrequencyApproximation) -> Result<(), Refusal> {
         Refusal::of(unsafe { ffi::one_pole_set_f(self.state(), f, approximation as u32) })
@@ -238,7 +240,7 @@ impl Svf {
         unsafe { ffi::svf_set_g_q(self.state(), g, resonance) }
     }
 
-    /// Sets the frequency, as a part of the sampling rate, and the resonance. `Exact` refuses an f below 0.
+    /// Sets the frequency, as a part of the sampling rate, and the resonance. `Exact` refuses an f below -0.497.
     ///
     /// ```
     /// use motif_filters::{FrequencyApproximation, Refusal, Svf};
@@ -246,7 +248,7 @@ impl Svf {
     /// let mut filter = Svf::new();
     /// assert!(filter.set_f_q(0.1, 2.0, FrequencyApproximation::Exact).is_ok());
     /// assert_eq!(filter.r(), 0.5);
-    /// assert_eq!(filter.set_f_q(-0.1, 1.0, FrequencyApproximation::Exact), Err(Refusal::Frequency));
+    /// assert_eq!(filter.set_f_q(-0.5, 1.0, FrequencyApproximation::Exact), Err(Refusal::Frequency));
     /// assert_eq!(filter.r(), 0.5);
     /// ```
     #[inline]
@@ -503,15 +505,16 @@ impl NaiveSvf {
         unsafe { ffi::naive_svf_reset(self.state()) }
     }
 
-    /// Sets the frequency, as a part of the sampling rate, and the resonance. `Exact` clips at 0.497 and refuses an f below 0; the three
-    /// others clip at 0.158 and are the same.
+    /// Sets the frequency, as a part of the sampling rate, and the resonance. `Exact` clips at 0.497 and refuses an f below -0.497; the
+    /// three others clip at 0.158 and are the same.
     ///
     /// ```
     /// use motif_filters::{FrequencyApproximation, NaiveSvf};
     ///
     /// let mut filter = NaiveSvf::new();
     /// filter.set_f_q(0.1, 1.0, FrequencyApproximation::Exact)?;
-    /// assert!(filter.set_f_q(-0.1, 1.0, FrequencyApproximation::Exact).is_err());
+    /// filter.set_f_q(-0.1, 1.0, FrequencyApproximation::Exact)?;
+    /// assert!(filter.set_f_q(-0.5, 1.0, FrequencyApproximation::Exact).is_err());
     /// # Ok::<(), motif_filters::Refusal>(())
     /// ```
     #[inline]

@@ -8,7 +8,7 @@
 //!
 //! | call | refused |
 //! |---|---|
-//! | [`OnePole::tan`], [`OnePole::set_f`], [`Svf::set_f_q`], [`NaiveSvf::set_f_q`] | [`Refusal::Frequency`]: `Exact` with f below 0 |
+//! | [`OnePole::tan`], [`OnePole::set_f`], [`Svf::set_f_q`], [`NaiveSvf::set_f_q`] | [`Refusal::Frequency`]: `Exact` with f below -0.497 |
 //! | [`Svf::process_stride_buffer`], [`NaiveSvf::process_decimate`] | [`Refusal::Step`]: a step of 0 |
 //!
 //! A buffer form works over the shortest of the buffers that it is lent. Later places keep their contents.

@@ -5,7 +5,7 @@ use std::fmt;
 /// ```
 /// use motif_filters::{FrequencyApproximation, OnePole, Refusal};
 ///
-/// let refused = OnePole::tan(-0.1, FrequencyApproximation::Exact);
+/// let refused = OnePole::tan(-0.5, FrequencyApproximation::Exact);
 /// assert_eq!(refused, Err(Refusal::Frequency));
 /// assert_eq!(Refusal::Frequency.number(), 11);
 /// ```
@@ -13,7 +13,7 @@ use std::fmt;
 pub enum Refusal {
     /// 10: a stride or a decimation of 0.
     Step,
-    /// 11: `Exact` with a frequency below 0.
+    /// 11: `Exact` with a frequency below -0.497, which itself is taken.
     Frequency,
 }
 
@@ -43,7 +43,7 @@ impl fmt::Display for Refusal {
     fn fmt(&self, f: &mut fmt::Formatter<'_>) -> fmt::Result {
         match self {
             Self::Step => write!(f, "step: a stride or a decimation of 0"),
-            Self::Frequency => write!(f, "frequency: Exact with a frequency below 0"),
+            Self::Frequency => write!(f, "frequency: Exact with a frequency below -0.497"),
         }
     }
 }

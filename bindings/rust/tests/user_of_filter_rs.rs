@@ -12,6 +12,9 @@ mod user {
 }
 
 const EXACT: FrequencyApproximation = FrequencyApproximation::Exact;
+
+// The number next below -0.497, the lowest frequency that Exact takes.
+const BELOW: f32 = -0.49700004;
 const LOW: FilterMode = FilterMode::LowPass;
 
 #[test]
@@ -58,18 +61,18 @@ fn a_refused_call_changes_nothing() {
     one_pole.init();
     svf.init();
     naive.init();
-    let frequency = "frequency: Exact with a frequency below 0";
+    let frequency = "frequency: Exact with a frequency below -0.497";
     let step = "step: a stride or a decimation of 0";
     assert_eq!(
-        refused(one_pole, |s, _| s.set_f(-0.1, EXACT)),
+        refused(one_pole, |s, _| s.set_f(BELOW, EXACT)),
         format!("OnePole::set_f: {frequency}")
     );
     assert_eq!(
-        refused(svf.clone(), |s, _| s.set_f_q(-0.1, 1.0, EXACT)),
+        refused(svf.clone(), |s, _| s.set_f_q(BELOW, 1.0, EXACT)),
         format!("Svf::set_f_q: {frequency}")
     );
     assert_eq!(
-        refused(naive.clone(), |s, _| s.set_f_q(-0.1, 1.0, EXACT)),
+        refused(naive.clone(), |s, _| s.set_f_q(BELOW, 1.0, EXACT)),
         format!("NaiveSvf::set_f_q: {frequency}")
     );
     assert_eq!(
@@ -83,27 +86,27 @@ fn a_refused_call_changes_nothing() {
 }
 
 #[test]
-#[should_panic(expected = "OnePole::tan: frequency: Exact with a frequency below 0")]
+#[should_panic(expected = "OnePole::tan: frequency: Exact with a frequency below -0.497")]
 fn tan_panics() {
-    (CALLS.tan)(-0.1, EXACT);
+    (CALLS.tan)(BELOW, EXACT);
 }
 
 #[test]
-#[should_panic(expected = "OnePole::set_f: frequency: Exact with a frequency below 0")]
+#[should_panic(expected = "OnePole::set_f: frequency: Exact with a frequency below -0.497")]
 fn set_f_panics() {
-    (CALLS.set_f)(&mut OnePole::new(), -0.1, EXACT);
+    (CALLS.set_f)(&mut OnePole::new(), BELOW, EXACT);
 }
 
 #[test]
-#[should_panic(expected = "Svf::set_f_q: frequency: Exact with a frequency below 0")]
+#[should_panic(expected = "Svf::set_f_q: frequency: Exact with a frequency below -0.497")]
 fn set_f_q_panics() {
-    (CALLS.set_f_q)(&mut Svf::new(), -0.1, 1.0, EXACT);
+    (CALLS.set_f_q)(&mut Svf::new(), BELOW, 1.0, EXACT);
 }
 
 #[test]
-#[should_panic(expected = "NaiveSvf::set_f_q: frequency: Exact with a frequency below 0")]
+#[should_panic(expected = "NaiveSvf::set_f_q: frequency: Exact with a frequency below -0.497")]
 fn naive_set_f_q_panics() {
-    (CALLS.naive_set_f_q)(&mut NaiveSvf::new(), -0.1, 1.0, EXACT);
+    (CALLS.naive_set_f_q)(&mut NaiveSvf::new(), BELOW, 1.0, EXACT);
 }
 
 #[test]
@@ -119,10 +122,22 @@ fn decimate_panics() {
 }
 
 #[test]
-fn what_is_not_below_0_is_accepted() {
-    assert_eq!(OnePole::tan(-0.0, EXACT), 0.0);
+fn what_is_not_below_the_lowest_is_accepted() {
+    assert_eq!(OnePole::tan(-0.0, EXACT).to_bits(), (-0.0f32).to_bits());
     assert!(OnePole::tan(f32::NAN, EXACT) > 1.0);
-    assert!(OnePole::tan(-0.1, FrequencyApproximation::Dirty) < 0.0);
+    assert!(OnePole::tan(BELOW, FrequencyApproximation::Dirty) < 0.0);
+    for f in [0.497, 0.3, 0.25, 0.158, f32::from_bits(1)] {
+        assert_eq!(OnePole::tan(-f, EXACT), -OnePole::tan(f, EXACT));
+        let (mut down, mut up) = (
+            motif_filters::NaiveSvf::new(),
+            motif_filters::NaiveSvf::new(),
+        );
+        assert_eq!(down.set_f_q(-f, 1.0, EXACT), Ok(()));
+        assert_eq!(up.set_f_q(f, 1.0, EXACT), Ok(()));
+        assert_eq!(down.fields()[0], -up.fields()[0]);
+        Svf::new().set_f_q(-f, 1.0, EXACT);
+        OnePole::new().set_f(-f, EXACT);
+    }
 }
 
 #[test]

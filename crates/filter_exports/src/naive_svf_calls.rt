@@ -33,7 +33,7 @@ pub extern "C" fn naive_svf_reset(state: &mut [f32; 4])
     *state = filter_fields::naive_svf_fields(filter_fields::naive_svf_from(state).reset());
 }
 
-// Refused with UNKNOWN, then with 11 where Exact gets an f below 0.
+// Refused with UNKNOWN, then with 11 where Exact gets an f below -0.497.
 #[no_mangle]
 pub extern "C" fn naive_svf_set_f_q(
     state: &mut [f32; 4],

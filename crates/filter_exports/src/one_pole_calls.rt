@@ -33,7 +33,7 @@ pub extern "C" fn one_pole_reset(state: &mut [f32; 3])
     *state = filter_fields::one_pole_fields(filter_fields::one_pole_from(state).reset());
 }
 
-// Refused with UNKNOWN, then with 11 where Exact gets an f below 0.
+// Refused with UNKNOWN, then with 11 where Exact gets an f below -0.497.
 #[no_mangle]
 pub extern "C" fn one_pole_tan(f: f32, approximation: u32, value: &mut f32) -> u8
     ensures { λ r. ⌜ Gives (unknownRefusal approximation then frequencyRefusal f (approximationOf approximation))

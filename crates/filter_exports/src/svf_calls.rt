@@ -64,7 +64,7 @@ pub extern "C" fn svf_set_g_q(state: &mut [f32; 5], g: f32, resonance: f32)
     *state = filter_fields::svf_fields(filter_fields::svf_from(state).set_g_q(g, resonance));
 }
 
-// Refused with UNKNOWN, then with 11 where Exact gets an f below 0.
+// Refused with UNKNOWN, then with 11 where Exact gets an f below -0.497.
 #[no_mangle]
 pub extern "C" fn svf_set_f_q(
     state: &mut [f32; 5],

@@ -15,31 +15,12 @@ pub fn bits(x: f32) -> u32 {
 
 /// The number that a frequency gets: 11 where Exact gets one below -0.497.
 pub fn frequency_refusal(f: f32, approximation: oracle::FrequencyApproximation) -> u8 {
-    if approximation == oracle::FrequencyApproximation::Exact && f < -0.497 {
+    if approximation == oracle::FrequencyApproximation::Exact && f < oracle::EXACT_LOWEST {
         11
     } else {
         0
     }
 }
-
-/// Frequencies below 0 where Exact changes its mind, and what stands beside them.
-pub const MIRRORED: [u32; 15] = [
-    0xBEFE_76C8,
-    0xBEFE_76C9, // -0.497, the lowest that it takes
-    0xBEFE_76CA,
-    0xBE7F_FFFF,
-    0xBE80_0000, // -0.25, where the tangent turns
-    0xBE80_0001,
-    0xBE21_CAC0,
-    0xBE21_CAC1, // -0.158
-    0xBE21_CAC2,
-    0x8000_0000, // -0.0, which is not below 0
-    0x8000_0001, // the smallest numbers below it
-    0x8000_0002,
-    0x807F_FFFF,
-    0x8080_0000,
-    0xBF00_0000, // -0.5, which is below all
-];
 
 /// A generator of Steele, Lea and Flood (splitmix64): the numbers depend on the seed alone.
 pub struct Numbers(pub u64);
@@ -97,7 +78,7 @@ impl Numbers {
     /// What a setter may get for a frequency: anything, with the numbers below 0 more often than `any` has them.
     pub fn setting(&mut self) -> f32 {
         match self.below(4) {
-            0 => f32::from_bits(MIRRORED[self.below(15) as usize]),
+            0 => f32::from_bits(oracle::MIRRORED[self.below(15) as usize]),
             1 => self.mirrored(),
             _ => self.any(),
         }

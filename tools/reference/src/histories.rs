@@ -2,7 +2,7 @@
 
 use crate::filters::type_of;
 use crate::numbers::Numbers;
-use crate::sheets::EXACT_LOWEST;
+use oracle::{EXACT_LOWEST, MIRRORED};
 
 pub fn hex(bytes: &[u8]) -> String {
     if bytes.is_empty() {
@@ -37,24 +37,6 @@ const SPECIAL: [u32; 20] = [
     0x3EFE_76C9, // 0.497, where Exact clips
     0x3E21_CAC1, // 0.158, where the naive filter clips
     0x3E80_0000, // 0.25, where the tangent turns
-];
-
-/// Frequencies below 0 where Exact changes its mind, and what stands beside them.
-pub const MIRRORED: [u32; 14] = [
-    0xBEFE_76C8,
-    0xBEFE_76C9, // -0.497, the lowest that it takes
-    0xBEFE_76CA,
-    0xBE7F_FFFF,
-    0xBE80_0000, // -0.25, where the tangent turns
-    0xBE80_0001,
-    0xBE21_CAC0,
-    0xBE21_CAC1, // -0.158
-    0xBE21_CAC2,
-    0x8000_0000, // -0.0, which is not below 0
-    0x8000_0001, // the smallest numbers below it
-    0x8000_0002,
-    0x807F_FFFF,
-    0x8080_0000,
 ];
 
 /// What the generator knows of a head, to give it calls that are accepted as often as not.

@@ -28,9 +28,6 @@ const KINDS: [(u8, usize, bool); 7] = [
     (7, 2, false), // CrossoverSvf::set_f_fq
 ];
 
-/// The lowest frequency that Exact takes (02 c).
-pub const EXACT_LOWEST: f32 = -0.497;
-
 /// The number that opening the sheet gives, 0 if it is accepted.
 pub fn check(sheet: &[u8]) -> u8 {
     if sheet.len() < 2 {
@@ -56,7 +53,7 @@ pub fn check(sheet: &[u8]) -> u8 {
             }
         }
         let a = f32::from_bits(word(sheet, entry, 0));
-        if approximates && approximation == 0 && a < EXACT_LOWEST {
+        if approximates && approximation == 0 && a < oracle::EXACT_LOWEST {
             return 11;
         }
     }

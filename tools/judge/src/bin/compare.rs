@@ -2,7 +2,7 @@
 //! and the refusals. `compare [--seed N] [--rounds N]`, or `compare --full`: OnePole::tan and the frequency of NaiveSvf at all 2^32 words.
 
 use judge::proved::{self, ffi, Refusal};
-use judge::{bits, frequency_refusal, oracle, Numbers, MIRRORED};
+use judge::{bits, frequency_refusal, oracle, Numbers};
 use std::collections::BTreeMap;
 use std::time::Instant;
 
@@ -228,9 +228,9 @@ fn naive_at(t: &mut Tally, w: [f32; 4], f: f32, resonance: f32, (p, q): Approxim
     setter!(t, NaiveSvf, w, "set_f_q", set_f_q(f, resonance), p, q);
 }
 
-// Every frequency of MIRRORED in every call that takes one.
+// Every frequency of `oracle::MIRRORED` in every call that takes one.
 fn mirrored(n: &mut Numbers, t: &mut Tally) {
-    for f in MIRRORED.map(f32::from_bits) {
+    for f in oracle::MIRRORED.map(f32::from_bits) {
         for by in APPROXIMATIONS {
             one_pole_at(t, n.words(true), f, by);
             svf_at(t, n.words(true), f, n.any(), by);
@@ -639,7 +639,7 @@ fn user(n: &mut Numbers, t: &mut Tally, tame: bool) {
         (n.setting(), n.any())
     };
     // Their code would panic at what is refused.
-    let f = if f < -0.497 { -f } else { f };
+    let f = if f < oracle::EXACT_LOWEST { -f } else { f };
     let step = n.step(length);
     for (p, q) in APPROXIMATIONS {
         t.at(
