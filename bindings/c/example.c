@@ -106,9 +106,16 @@ int main(void) {
     float up, down, naive_up[4], naive_down[4];
     check("the tangent, mirrored", one_pole_tan(lowest, MOTIF_EXACT, &down) == MOTIF_OK && one_pole_tan(-lowest, MOTIF_EXACT, &up) == MOTIF_OK && down == -up);
     check("no tangent below", one_pole_tan(below, MOTIF_EXACT, &down) == MOTIF_FREQUENCY && down == -up);
+    float one_pole[3];
+    one_pole_new(one_pole);
+    check("set_f, mirrored", one_pole_set_f(one_pole, lowest, MOTIF_EXACT) == MOTIF_OK && one_pole[0] == -up);
+    check("set_f below", one_pole_set_f(one_pole, below, MOTIF_EXACT) == MOTIF_FREQUENCY && one_pole[0] == -up);
+    check("set_f_q, mirrored", svf_set_f_q(svf, lowest, 1, MOTIF_EXACT) == MOTIF_OK && svf_g(svf) == -up);
+    svf_set_g_r_h(svf, 1, 1, 0.25f);
     naive_svf_new(naive_up);
     naive_svf_new(naive_down);
     check("the sine, mirrored", naive_svf_set_f_q(naive_down, lowest, 1, MOTIF_EXACT) == MOTIF_OK && naive_svf_set_f_q(naive_up, -lowest, 1, MOTIF_EXACT) == MOTIF_OK && naive_down[0] == -naive_up[0]);
+    check("the naive set_f_q below", naive_svf_set_f_q(naive_down, below, 2, MOTIF_EXACT) == MOTIF_FREQUENCY && naive_down[0] == -naive_up[0] && naive_down[1] == 1);
 
     /* S5: the high-pass of multimode is inverted */
     float one[1];

@@ -1,2 +1,3 @@
 pub mod Loads
 pub mod Rest
+pub mod Set

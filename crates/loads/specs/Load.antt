@@ -15,7 +15,7 @@ use Rattle.sheets.specs.declared.entry.Entry.{Entry}
 use Rattle.sheets.specs.declared.setter.Setter.{Setter}
 use Rattle.sheets.specs.declared.setter.Setter.the-variants.{DcBlocker, OnePole, SvfFrequency, SvfCoefficients, NaiveSvf, ModifiedSvf, CrossoverSvf, Unknown}
 
--- A setter that can be refused hands the new filter back: no entry of a sheet is refused.
+-- A setter that can be refused hands the new filter back: no entry of a sheet is refused (Set.antt).
 -- An unknown kind byte, which no sheet has, is read as a DC blocker's.
 unfoldable pub filterFor : Setter → Float → Float → Float → Filter
 filterFor DcBlocker a b c = ofDc (dcInit dcNew a)

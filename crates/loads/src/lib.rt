@@ -12,6 +12,7 @@ use svf::Svf;
 ghost use mathlib.Core.Path.{_≡_};
 ghost use Rattle.loads.specs.Load.{filterFor, filterOf};
 ghost use Rattle.loads.specs.Rest.{LoadsAtRest};
+ghost use Rattle.loads.specs.Set.{LoadsAreSet};
 
 // New of the setter's type, and then the setter. It takes as many of the three numbers as it has parameters.
 fn filter_for(setter: Setter, a: f32, b: f32, c: f32) -> Filter
@@ -54,4 +55,9 @@ pub fn filter_of(entry: Entry) -> Filter
 // What a load makes is at rest already.
 pub fn loads_at_rest()
     ensures { λ _. ⌜ LoadsAtRest ⌝ }
+{}
+
+// What a load makes of an entry that the check takes is what the setter makes: no setter refuses it.
+pub fn loads_are_set()
+    ensures { λ _. ⌜ LoadsAreSet ⌝ }
 {}

@@ -23,7 +23,7 @@ sineSeries x = x *ᶠ horner (x *ᶠ x) sineRow
 abbrev pub sineExact : Float → Float
 sineExact f = sineSeries (πᶠ *ᶠ clipAt (word 0x3efe_76c9) f)
 
--- and by 02 c below 0
+-- 01's from 0 up, and by 02 c mirrored below
 abbrev pub sineMirrored : Float → Float
 sineMirrored f = odd sineExact f
 
@@ -40,6 +40,6 @@ naiveFrequency f Accurate = naiveLinear f
 naiveFrequency f Fast = naiveLinear f
 naiveFrequency f Dirty = naiveLinear f
 
--- twice 01's sine from 0 up, and mirrored below
+-- Exact's coefficient is odd
 abbrev pub SineIsOdd : Type 0
 SineIsOdd = OddFrom (λ f. twoᶠ *ᶠ sineExact f) (λ f. naiveFrequency f Exact)

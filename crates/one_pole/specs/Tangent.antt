@@ -31,7 +31,7 @@ tangent f = cond (le f (word 0x3e80_0000)) (tanSeries (πᶠ *ᶠ f)) (oneᶠ /�
 abbrev pub tanExact : Float → Float
 tanExact f = tangent (clip f)
 
--- and by 02 c below 0
+-- 01's from 0 up, and by 02 c mirrored below
 abbrev pub tanMirrored : Float → Float
 tanMirrored f = odd tanExact f
 
@@ -99,6 +99,6 @@ tanOf f Accurate = tanAccurate f
 tanOf f Fast = tanFast f
 tanOf f Dirty = tanDirty f
 
--- 01's tangent from 0 up, and mirrored below
+-- Exact's tangent is odd
 abbrev pub TangentIsOdd : Type 0
 TangentIsOdd = OddFrom tanExact (λ f. tanOf f Exact)

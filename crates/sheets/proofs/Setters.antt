@@ -5,7 +5,7 @@ use Rattle.filter_core.specs.Arithmetic.{word}
 use Rattle.filter_core.specs.Refusal.{frequencyRefusal}
 use Rattle.filter_core.specs.Rows.{_then_}
 use Rattle.filter_core.specs.declared.FrequencyApproximation.{FrequencyApproximation}
-use Rattle.filter_core.proofs.Rows.{none-then, then-zero}
+use Rattle.filter_core.proofs.Rows.{then-zero}
 use Rattle.sheets.specs.Kind.{setterOf, kindRefusal}
 use Rattle.sheets.specs.Refusal.{used, wordsRefusal, wordFrequencyRefusal, settingRefusal, entryRefusal}
 use Rattle.sheets.specs.Setters.{TakesF, one-pole, svf, naive, AsSetters}

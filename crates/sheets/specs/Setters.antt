@@ -1,4 +1,4 @@
--- A sheet's 11 is the setter's: `check` and the setters go by one refusal.
+-- A sheet's 11 is the setter's: `frequencyRefusal` is the number in the contracts of set_f and both set_f_q.
 use Prim.Native.Nat.{ℕ}
 use mathlib.Core.Path.{_≡_}
 use Rattle.filter_core.specs.Arithmetic.{word}

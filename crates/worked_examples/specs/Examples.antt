@@ -176,7 +176,7 @@ pub record WorkedExamples : Type 0 where
       ∷ acted (answered 0)
       ∷ acted (ran 0 (zeroᶠ ∷ []))
       ∷ []
-  -- document 02, c: Exact at -0.3 is -1.376382 and the sine's -1.6180341; -0.0 has its own value; a sheet may go down to -0.497
+  -- document 02, c: Exact at -0.3 is -1.376382, the naive coefficient -1.6180341; -0.0 has its own value; a sheet may go down to -0.497
   pub tangent-mirrored : tanOf (word 0xbe99_999a) Exact ≡ word 0xbfb0_2d49
   pub sine-mirrored : naiveFrequency (word 0xbe99_999a) Exact ≡ word 0xbfcf_1bbe
   pub tangent-at-minus-zero : tanOf (negᶠ zeroᶠ) Exact ≡ negᶠ zeroᶠ

@@ -78,7 +78,9 @@ impl Numbers {
     /// What a setter may get for a frequency: anything, with the numbers below 0 more often than `any` has them.
     pub fn setting(&mut self) -> f32 {
         match self.below(4) {
-            0 => f32::from_bits(oracle::MIRRORED[self.below(15) as usize]),
+            0 => {
+                f32::from_bits(oracle::MIRRORED[self.below(oracle::MIRRORED.len() as u64) as usize])
+            }
             1 => self.mirrored(),
             _ => self.any(),
         }

@@ -284,11 +284,10 @@ impl Writer {
             7 => sheet[setting + 8 + self.numbers.below(4) as usize] ^= 1 << self.numbers.below(8),
             8 => {
                 sheet[2 + entry] = self.numbers.pick(&[2, 3, 5]);
-                let f: u32 = match self.numbers.below(4) {
-                    0 => 0xBEFE_76CA,
-                    1 => 0xBEFE_76C9,
-                    2 => 0xBF00_0000,
-                    _ => self.numbers.next() as u32 | 0x8000_0000,
+                let f = if self.numbers.percent(50) {
+                    self.numbers.pick(&MIRRORED)
+                } else {
+                    self.numbers.next() as u32 | 0x8000_0000
                 };
                 sheet[setting..setting + 4].copy_from_slice(&f.to_le_bytes());
             }

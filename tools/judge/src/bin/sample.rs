@@ -3,7 +3,7 @@
 
 use judge::{bits, frequency_refusal, oracle, Numbers};
 use oracle::{CrossoverSvf, DcBlocker, ModifiedSvf, NaiveSvf, OnePole, Svf};
-use oracle::{FilterMode, FrequencyApproximation};
+use oracle::{FilterMode, FrequencyApproximation, EXACT_LOWEST};
 use std::io::Write;
 
 const SEED: u64 = 1;
@@ -53,9 +53,8 @@ impl Call {
         let [p, q, r] = self.numbers;
         let (mode, mode_2) = (MODES[self.a], MODES[self.b]);
         let approximation = APPROXIMATIONS[self.a];
-        let takes_f = matches!(self.method, 23 | 24 | 37 | 53);
         let refusal = frequency_refusal(p, approximation);
-        if takes_f && refusal != 0 {
+        if takes_f(self.method) && refusal != 0 {
             self.refusal = u32::from(refusal);
             return;
         }
@@ -154,6 +153,21 @@ impl Call {
     }
 }
 
+// OnePole::tan and set_f, and both set_f_q.
+fn takes_f(method: u32) -> bool {
+    matches!(method, 23 | 24 | 37 | 53)
+}
+
+// The first number of these: one case is below 0, one the lowest that Exact takes, and one the number next below.
+fn frequency(case: usize, f: f32) -> f32 {
+    match case {
+        2 => -f,
+        4 => EXACT_LOWEST,
+        5 => EXACT_LOWEST.next_down(),
+        _ => f,
+    }
+}
+
 // How many modes or approximations a method takes: none, one of four, or two of four.
 fn choices(method: u32) -> (usize, usize) {
     match method {
@@ -183,13 +197,18 @@ fn main() {
             for case in 0..CASES {
                 // The first cases are tame; of the others one has a step of 0.
                 let tame = case < 3;
+                let numbers = [(); 3].map(|_| if tame { n.frequency() } else { n.any() });
                 let lengths = [(); 3].map(|_| if case == 0 { 8 } else { n.below(9) as usize });
                 let call = Call {
                     method,
                     a,
                     b,
                     step: if case == 5 { 0 } else { n.step(8) },
-                    numbers: [(); 3].map(|_| if tame { n.frequency() } else { n.setting() }),
+                    numbers: if takes_f(method) {
+                        [frequency(case, numbers[0]), numbers[1], numbers[2]]
+                    } else {
+                        numbers
+                    },
                     lengths,
                     refusal: 0,
                     state: n.words(tame),
