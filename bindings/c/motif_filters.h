@@ -52,7 +52,8 @@ enum {
 };
 
 /* An approximation: how a frequency, as a part of the sampling rate, becomes a coefficient. MOTIF_EXACT clips it at 0.497, and takes a NaN
- * for that; below 0, down to -0.497, its value is the negative of that at -f. naive_svf_set_f_q clips it at 0.158 in the three others. */
+ * for that; below 0, down to -0.497, its value is the negative of that at -f, and the filter grows from sample to
+ * sample unless its resonance is below 0 too. naive_svf_set_f_q clips it at 0.158 in the three others. */
 enum {
     MOTIF_EXACT = 0,
     MOTIF_ACCURATE = 1,

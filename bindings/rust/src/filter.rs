@@ -18,8 +18,8 @@
 //! | [`Svf::process_stride_buffer`] | a stride of 0 | panics |
 //! | [`NaiveSvf::process_decimate`] | a decimation of 0 | panics where overflow is checked; elsewhere filters every sample and writes the first place only |
 //!
-//! -0.497 itself is taken; a NaN is taken for 0.497. `Exact` is a series here, and the platform's tangent or sine in the source: the last bits differ. All
-//! else is equal bit for bit, but for the sign and payload of a NaN.
+//! -0.497 itself is taken; a NaN is taken for 0.497. `Exact` is a series here, and the platform's tangent or sine in the source: the last
+//! bits differ. All else is equal bit for bit, but for the sign and payload of a NaN.
 //!
 //! `OnePole`, `Svf` and `NaiveSvf` have types of their own here, which convert to those at the top of the crate and back. The other three
 //! filters and the enums are the same types in both places.

@@ -34,7 +34,7 @@ pub enum FilterMode {
 #[derive(Debug, Clone, Copy, PartialEq, Eq)]
 pub enum FrequencyApproximation {
     /// The series of Abramowitz and Stegun, and below 0 the negative of the value at -f. The frequency is clipped at 0.497, and below -0.497
-    /// it is refused.
+    /// it is refused. A filter that is set below 0 grows from sample to sample, unless its resonance is below 0 too.
     Exact,
     /// The source's polynomial of degree 11, without one coefficient of its series, as the source has it.
     Accurate,

@@ -2,7 +2,6 @@
 use Prim.Native.Nat.{ℕ, zero, suc, _*_, _^_, _+_}
 use mathlib.Core.Path.{_≡_, refl, sym, ap, _∙_}
 use mathlib.Core.Bool.{Bool, true, false, not, cond}
-use borrow.Author.Needs.{needs}
 use borrow.Author.Tests.{ltb-true, le-ltb}
 use native.Mathlib.Omega.{arith}
 use lib.Dec.{ltb, eqb}
@@ -10,6 +9,7 @@ use lib.Ieee.{Float, nan, inf, fin, Format, binary32, prec, emax, low, unlike, u
 use lib.Ieee as ieee
 use Rattle.filter_core.specs.Arithmetic.{_*ᶠ_, zeroᶠ, negᶠ}
 use Rattle.filter_core.specs.Odd.{odd, OddFrom}
+use Rattle.filter_core.proofs.Choices.{first-of, choosing}
 
 -- ---- signs
 
@@ -61,10 +61,7 @@ times-neg f (fin s m e) (fin t n d) = rw (unlike-not s t) (round-neg f (unlike s
 
 module _ (g : Float → Float) where
   pub mirrored : (f : Float) {v w : Float} → lt f zeroᶠ ≡ true → w ≡ g (negᶠ f) → v ≡ negᶠ w → v ≡ odd g f
-  mirrored f e p q = rw e (q ∙ ap negᶠ p)
-
-  pub straight : (f : Float) {v : Float} → lt f zeroᶠ ≡ false → v ≡ g f → v ≡ odd g f
-  straight f e p = rw e p
+  mirrored f {v} e p q = first-of (lt f zeroᶠ) (negᶠ (g (negᶠ f))) (g f) v e (q ∙ ap negᶠ p)
 
   pub is-odd : OddFrom g (odd g)
   is-odd = record { from-zero = λ f e. rw e refl; below-zero = λ f e. rw (e, above f e) refl }
@@ -73,4 +70,4 @@ module _ (g : Float → Float) where
   times-is-odd y = record { from-zero = λ f e. rw e refl; below-zero = λ f e. rw (e, above f e) (times-neg binary32 y (g (negᶠ f))) }
 
 -- what `search` is handed where a function is odd by its test
-pub ruleset mirroring = (mirrored, straight, needs)
+pub ruleset mirroring = (mirrored, choosing)

@@ -8,7 +8,7 @@ use Rattle.filter_core.specs.declared.FrequencyApproximation.{FrequencyApproxim
 use Rattle.filter_core.proofs.Rows.{then-zero}
 use Rattle.sheets.specs.Kind.{setterOf, kindRefusal}
 use Rattle.sheets.specs.Refusal.{used, wordsRefusal, wordFrequencyRefusal, settingRefusal, entryRefusal}
-use Rattle.sheets.specs.Setters.{TakesF, one-pole, svf, naive, AsSetters}
+use Rattle.sheets.specs.Setters.{FrequencySetter, one-pole, svf, naive, AsSetters}
 use Rattle.sheets.specs.declared.entry.Entry.{Entry}
 use Rattle.sheets.specs.declared.setter.Setter.{Setter}
 
@@ -17,17 +17,17 @@ by-setter a p = refl
 
 -- a setter that takes a frequency: its kind is right, and its refusal the frequency's
 module _ {p : FrequencyApproximation} (a : ℕ) where
-  right-kind : {s : Setter} → TakesF s p → kindRefusal s ≡ 0
+  right-kind : {s : Setter} → FrequencySetter s p → kindRefusal s ≡ 0
   right-kind one-pole = refl
   right-kind svf = refl
   right-kind naive = refl
 
-  by-frequency : {s : Setter} → TakesF s p → settingRefusal s a ≡ frequencyRefusal (word a) p
+  by-frequency : {s : Setter} → FrequencySetter s p → settingRefusal s a ≡ frequencyRefusal (word a) p
   by-frequency one-pole = by-setter a p
   by-frequency svf = by-setter a p
   by-frequency naive = by-setter a p
 
-module _ (t : Entry) (p : FrequencyApproximation) (f : TakesF (setterOf (t .kind)) p) where
+module _ (t : Entry) (p : FrequencyApproximation) (f : FrequencySetter (setterOf (t .kind)) p) where
   same : wordsRefusal (used (setterOf (t .kind))) t ≡ 0 → entryRefusal t ≡ frequencyRefusal (word (t .a)) p
   unfolding entryRefusal
   same w = rw (right-kind (t .a) f, w) (by-frequency (t .a) f)

@@ -35,7 +35,7 @@ wordRefusal u k w = cond (ltb k u) (cond (otherNan w) 4 0) (cond (eqb w 0) 0 4)
 abbrev pub wordsRefusal : ℕ → Entry → ℕ
 wordsRefusal u t = wordRefusal u 0 (t .a) then wordRefusal u 1 (t .b) then wordRefusal u 2 (t .c)
 
--- the word a as an f
+-- `frequency`: the number of a word that stands for an f
 abbrev pub wordFrequencyRefusal : ℕ → FrequencyApproximation → ℕ
 wordFrequencyRefusal a p = frequencyRefusal (word a) p
 

@@ -11,14 +11,14 @@ use Rattle.sheets.specs.declared.setter.Setter.{Setter}
 use Rattle.sheets.specs.declared.setter.Setter.the-variants.{OnePole, SvfFrequency, NaiveSvf}
 
 -- the setters that take a frequency, and with it an approximation: set_f and both set_f_q
-pub data TakesF : Setter → FrequencyApproximation → Type 0 where
-  one-pole : {p : FrequencyApproximation} → TakesF (OnePole p) p
-  svf : {p : FrequencyApproximation} → TakesF (SvfFrequency p) p
-  naive : {p : FrequencyApproximation} → TakesF (NaiveSvf p) p
+pub data FrequencySetter : Setter → FrequencyApproximation → Type 0 where
+  one-pole : {p : FrequencyApproximation} → FrequencySetter (OnePole p) p
+  svf : {p : FrequencyApproximation} → FrequencySetter (SvfFrequency p) p
+  naive : {p : FrequencyApproximation} → FrequencySetter (NaiveSvf p) p
 
 pub record AsSetters : Type 0 where
   -- an entry that is right in its kind and its words gets the number that its setter answers for its f
-  pub same : (t : Entry) (p : FrequencyApproximation) → TakesF (setterOf (t .kind)) p → wordsRefusal (used (setterOf (t .kind))) t ≡ 0
+  pub same : (t : Entry) (p : FrequencyApproximation) → FrequencySetter (setterOf (t .kind)) p → wordsRefusal (used (setterOf (t .kind))) t ≡ 0
       → entryRefusal t ≡ frequencyRefusal (word (t .a)) p
   -- so no setter refuses an entry of a sheet
-  pub taken : (t : Entry) (p : FrequencyApproximation) → TakesF (setterOf (t .kind)) p → entryRefusal t ≡ 0 → frequencyRefusal (word (t .a)) p ≡ 0
+  pub taken : (t : Entry) (p : FrequencyApproximation) → FrequencySetter (setterOf (t .kind)) p → entryRefusal t ≡ 0 → frequencyRefusal (word (t .a)) p ≡ 0

@@ -24,7 +24,7 @@ pub fn words_return()
     ensures { λ _. ⌜ WordsReturn ⌝ }
 {}
 
-// A sheet's 11 is the setter's: an entry that is right else is refused exactly as its setter refuses it.
+// A sheet's 11 is the setter's: an entry that is right otherwise is refused exactly as its setter refuses it.
 pub fn as_setters()
     ensures { λ _. ⌜ AsSetters ⌝ }
 {}

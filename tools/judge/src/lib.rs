@@ -70,18 +70,13 @@ impl Numbers {
         (self.next() >> 40) as f32 / (1u64 << 24) as f32 * 0.6
     }
 
-    /// From -0.6 to 0.
-    pub fn mirrored(&mut self) -> f32 {
-        -self.frequency()
-    }
-
     /// What a setter may get for a frequency: anything, with the numbers below 0 more often than `any` has them.
     pub fn setting(&mut self) -> f32 {
         match self.below(4) {
             0 => {
                 f32::from_bits(oracle::MIRRORED[self.below(oracle::MIRRORED.len() as u64) as usize])
             }
-            1 => self.mirrored(),
+            1 => -self.frequency(),
             _ => self.any(),
         }
     }

@@ -197,18 +197,17 @@ fn main() {
             for case in 0..CASES {
                 // The first cases are tame; of the others one has a step of 0.
                 let tame = case < 3;
-                let numbers = [(); 3].map(|_| if tame { n.frequency() } else { n.any() });
+                let mut numbers = [(); 3].map(|_| if tame { n.frequency() } else { n.any() });
+                if takes_f(method) {
+                    numbers[0] = frequency(case, numbers[0]);
+                }
                 let lengths = [(); 3].map(|_| if case == 0 { 8 } else { n.below(9) as usize });
                 let call = Call {
                     method,
                     a,
                     b,
                     step: if case == 5 { 0 } else { n.step(8) },
-                    numbers: if takes_f(method) {
-                        [frequency(case, numbers[0]), numbers[1], numbers[2]]
-                    } else {
-                        numbers
-                    },
+                    numbers,
                     lengths,
                     refusal: 0,
                     state: n.words(tame),
