@@ -12,7 +12,7 @@ use native.Mathlib.Omega.{arith}
 use Rattle.filter_core.specs.Refusal.{exactLowest, frequencyRefusal}
 use Rattle.filter_core.specs.Rows.{_then_, First, none, here, later, Exactly, StepCase, no-step, FrequencyCase, below-lowest, RefusalsByRows}
 use Rattle.filter_core.specs.declared.FrequencyApproximation.{FrequencyApproximation}
-use Rattle.filter_core.specs.declared.FrequencyApproximation.the-variants.{Exact, Accurate, Fast, Dirty}
+use Rattle.filter_core.specs.declared.FrequencyApproximation.the-variants.{Exact, Accurate, Fast, Dirty, Series}
 
 -- ---- two numbers, decided
 
@@ -117,6 +117,7 @@ by-frequency f Exact = first-last (exact-step f)
 by-frequency f Accurate = later {n = 11} (elim [ ]) none
 by-frequency f Fast = later {n = 11} (elim [ ]) none
 by-frequency f Dirty = later {n = 11} (elim [ ]) none
+by-frequency f Series = later {n = 11} (elim [ ]) none
 
 pub refusals-by-rows : RefusalsByRows
 refusals-by-rows =

@@ -8,7 +8,7 @@ use lib.Ieee.{Float, lt}
 use Rattle.filter_core.specs.Arithmetic.{word}
 use Rattle.filter_core.specs.Buffer.{Filtered}
 use Rattle.filter_core.specs.declared.FrequencyApproximation.{FrequencyApproximation}
-use Rattle.filter_core.specs.declared.FrequencyApproximation.the-variants.{Exact, Accurate, Fast, Dirty}
+use Rattle.filter_core.specs.declared.FrequencyApproximation.the-variants.{Exact, Accurate, Fast, Dirty, Series}
 
 -- `step` of the refusal table: a stride or a decimation of 0
 abbrev pub stepRefusal : ℕ → ℕ
@@ -24,6 +24,7 @@ frequencyRefusal f Exact = cond (lt f exactLowest) 11 0
 frequencyRefusal f Accurate = 0
 frequencyRefusal f Fast = 0
 frequencyRefusal f Dirty = 0
+frequencyRefusal f Series = 0
 
 -- what a call with the refusal n (0: accepted) leaves of `was`, where acceptance makes it `made`
 abbrev pub unlessRefused : {A : Type 0} → ℕ → A → A → A

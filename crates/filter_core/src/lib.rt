@@ -15,11 +15,13 @@ pub enum FilterMode {
     HighPass,
 }
 
+// The source's four, and approximation 4 of request a in document 02.
 pub enum FrequencyApproximation {
     Exact,
     Accurate,
     Fast,
     Dirty,
+    Series,
 }
 
 // The first refusal of two; 0 is none.
@@ -48,6 +50,7 @@ pub fn frequency_refusal(f: f32, approximation: FrequencyApproximation) -> u8
         FrequencyApproximation::Accurate => 0,
         FrequencyApproximation::Fast => 0,
         FrequencyApproximation::Dirty => 0,
+        FrequencyApproximation::Series => 0,
     }
 }
 

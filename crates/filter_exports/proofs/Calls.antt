@@ -1,5 +1,5 @@
--- A call is refused, or it is accepted: the two ways to each promise, over any filter. k is the number of a mode or an approximation.
--- Assumes nothing.
+-- A call is refused, or it is accepted: the two ways to each promise, over any filter. k is the number of a mode or an approximation, l the last
+-- that names one. Assumes nothing.
 use Prim.Native.Nat.{ℕ, _≤_, _<_}
 use native.Mathlib.Omega.{arith}
 use mathlib.Core.Path.{_≡_, refl, ap, _∙_}
@@ -16,18 +16,18 @@ use Rattle.filter_exports.specs.Calls.{Gives, Sets, Answers, Runs, Filte
 
 -- ---- the number k alone and before another refusal b
 
-module _ {k : ℕ} where
-  unknown : 3 < k → 100 ≡ unknownRefusal k
-  unknown h = rw (lt-leb k 3 h)
+module _ {l k : ℕ} where
+  unknown : l < k → 100 ≡ unknownRefusal l k
+  unknown h = rw (lt-leb k l h)
 
-  pub known : k ≤ 3 → 0 ≡ unknownRefusal k
-  known h = rw (le-leb k 3 h)
+  pub known : k ≤ l → 0 ≡ unknownRefusal l k
+  known h = rw (le-leb k l h)
 
-  unknown-first : (b : ℕ) → 3 < k → 100 ≡ (unknownRefusal k then b)
-  unknown-first b h = rw (lt-leb k 3 h)
+  unknown-first : (b : ℕ) → l < k → 100 ≡ (unknownRefusal l k then b)
+  unknown-first b h = rw (lt-leb k l h)
 
-  pub known-first : {b number : ℕ} → k ≤ 3 → number ≡ b → number ≡ (unknownRefusal k then b)
-  known-first h e = rw (le-leb k 3 h, e)
+  pub known-first : {b number : ℕ} → k ≤ l → number ≡ b → number ≡ (unknownRefusal l k then b)
+  known-first h e = rw (le-leb k l h, e)
 
 hundred : _≡_ {A = ℕ} 100 0 → ⊥
 hundred e = omega arith
@@ -40,12 +40,12 @@ gives-refused e z = record { refusal = e; output = stays _ _ e z }
 pub gives-accepted : {n : ℕ} {old new is : Float} → 0 ≡ n → is ≡ new → Gives n old new 0 is
 gives-accepted e o = record { refusal = e; output = goes _ _ e refl o }
 
-module _ {k : ℕ} {old new : Float} where
-  pub gives-unknown : (b : ℕ) → 3 < k → Gives (unknownRefusal k then b) old new 100 old
+module _ {l k : ℕ} {old new : Float} where
+  pub gives-unknown : (b : ℕ) → l < k → Gives (unknownRefusal l k then b) old new 100 old
   gives-unknown b h = gives-refused (unknown-first b h) hundred
 
-  pub gives-frequency-refused : (f : Float) {a : FrequencyApproximation} {number : ℕ} → k ≤ 3 → a ≡ approximationOf k → number ≡ frequencyRefusal f a → (number ≡ 0 → ⊥)
-      → Gives (unknownRefusal k then frequencyRefusal f (approximationOf k)) old new number old
+  pub gives-frequency-refused : (f : Float) {a : FrequencyApproximation} {number : ℕ} → k ≤ l → a ≡ approximationOf k → number ≡ frequencyRefusal f a → (number ≡ 0 → ⊥)
+      → Gives (unknownRefusal l k then frequencyRefusal f (approximationOf k)) old new number old
   gives-frequency-refused f h a e z = gives-refused (known-first h (rw a at e)) z
 
 -- ---- a setter
@@ -56,12 +56,12 @@ set-refused e z = record { refusal = e; state = stays _ _ e z }
 pub set-accepted : {n : ℕ} {was made fields : List Float} → 0 ≡ n → fields ≡ made → Sets n was made 0 fields
 set-accepted e w = record { refusal = e; state = goes _ _ e refl w }
 
-module _ {k : ℕ} {was made : List Float} where
-  pub set-unknown : (b : ℕ) → 3 < k → Sets (unknownRefusal k then b) was made 100 was
+module _ {l k : ℕ} {was made : List Float} where
+  pub set-unknown : (b : ℕ) → l < k → Sets (unknownRefusal l k then b) was made 100 was
   set-unknown b h = set-refused (unknown-first b h) hundred
 
-  pub set-frequency-refused : (f : Float) {a : FrequencyApproximation} {number : ℕ} → k ≤ 3 → a ≡ approximationOf k → number ≡ frequencyRefusal f a → (number ≡ 0 → ⊥)
-      → Sets (unknownRefusal k then frequencyRefusal f (approximationOf k)) was made number was
+  pub set-frequency-refused : (f : Float) {a : FrequencyApproximation} {number : ℕ} → k ≤ l → a ≡ approximationOf k → number ≡ frequencyRefusal f a → (number ≡ 0 → ⊥)
+      → Sets (unknownRefusal l k then frequencyRefusal f (approximationOf k)) was made number was
   set-frequency-refused f h a e z = set-refused (known-first h (rw a at e)) z
 
 -- ---- a call for one sample
@@ -72,14 +72,14 @@ answer-accepted e w o = record { refusal = e; state = goes _ _ e refl w; output 
 answer-refused : {n number : ℕ} {was made : List Float} {old new : Float} → number ≡ n → (number ≡ 0 → ⊥) → Answers n was made old new number was old
 answer-refused e z = record { refusal = e; state = stays _ _ e z; output = stays _ _ e z }
 
-module _ {k : ℕ} {was made : List Float} {old new : Float} where
-  pub answer-unknown : 3 < k → Answers (unknownRefusal k) was made old new 100 was old
+module _ {l k : ℕ} {was made : List Float} {old new : Float} where
+  pub answer-unknown : l < k → Answers (unknownRefusal l k) was made old new 100 was old
   answer-unknown h = answer-refused (unknown h) hundred
 
-  pub answer-first-unknown : (b : ℕ) → 3 < k → Answers (unknownRefusal k then b) was made old new 100 was old
+  pub answer-first-unknown : (b : ℕ) → l < k → Answers (unknownRefusal l k then b) was made old new 100 was old
   answer-first-unknown b h = answer-refused (unknown-first b h) hundred
 
-  pub answer-second-unknown : {j : ℕ} → j ≤ 3 → 3 < k → Answers (unknownRefusal j then unknownRefusal k) was made old new 100 was old
+  pub answer-second-unknown : {j : ℕ} → j ≤ l → l < k → Answers (unknownRefusal l j then unknownRefusal l k) was made old new 100 was old
   answer-second-unknown g h = answer-refused (known-first g (unknown h)) hundred
 
 -- ---- a buffer form
@@ -92,16 +92,16 @@ module _ {S : Type 0} {read : List Float → S} {write : S → List Float} {next
       → Runs read write n next put was xs ys 0 fields zs
   run-accepted e d w = record { refusal = e; state = goes _ _ e refl (w ∙ ap write (d .state)); buffer = goes _ _ e refl (d .buffer) }
 
-  module _ {k : ℕ} where
-    pub run-unknown : 3 < k → Runs read write (unknownRefusal k) next put was xs ys 100 was ys
+  module _ {l k : ℕ} where
+    pub run-unknown : l < k → Runs read write (unknownRefusal l k) next put was xs ys 100 was ys
     run-unknown h = run-refused (unknown h) hundred refl
 
-    pub run-first-unknown : (b : ℕ) → 3 < k → Runs read write (unknownRefusal k then b) next put was xs ys 100 was ys
+    pub run-first-unknown : (b : ℕ) → l < k → Runs read write (unknownRefusal l k then b) next put was xs ys 100 was ys
     run-first-unknown b h = run-refused (unknown-first b h) hundred refl
 
     -- a form that goes by the step d, whatever it would have done
-    pub run-step-refused : {d number : ℕ} {next′ : ℕ → S → Float → S} {put′ : ℕ → S → Float → Float → Float} {s f : S} {zs : List Float} → k ≤ 3
-        → Answered d next′ put′ s xs ys number f zs → (number ≡ 0 → ⊥) → Runs read write (unknownRefusal k then stepRefusal d) next put was xs ys number was zs
+    pub run-step-refused : {d number : ℕ} {next′ : ℕ → S → Float → S} {put′ : ℕ → S → Float → Float → Float} {s f : S} {zs : List Float} → k ≤ l
+        → Answered d next′ put′ s xs ys number f zs → (number ≡ 0 → ⊥) → Runs read write (unknownRefusal l k then stepRefusal d) next put was xs ys number was zs
     run-step-refused {number = number} h a z =
         run-refused (known-first h (a .refusal)) z (rw (refusing number _ (a .refusal) z) at (a .filtered .buffer))
 

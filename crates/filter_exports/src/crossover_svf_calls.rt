@@ -1,12 +1,12 @@
 // CrossoverSvf: f, fq, x of both passes, lp of both, bp of both.
 
-use crate::LAST;
+use crate::LAST_MODE;
 use crate::UNKNOWN;
 use crossover_svf::CrossoverSvf;
 ghost use mathlib.Core.Path.{_≡_};
 ghost use Rattle.filter_core.specs.Buffer.{within, each, puts};
 ghost use Rattle.crossover_svf.specs.CrossoverSvf.{crossoverNew, crossoverInit, crossoverReset, crossoverSetFFq, crossoverNext, crossoverOut};
-ghost use Rattle.filter_fields.specs.Numbers.{modeOf, unknownRefusal};
+ghost use Rattle.filter_fields.specs.Numbers.{lastMode, modeOf, unknownRefusal};
 ghost use Rattle.filter_fields.specs.Fields.{crossoverFrom, crossoverFields};
 ghost use Rattle.filter_exports.specs.Calls.{Runs};
 
@@ -49,10 +49,10 @@ pub extern "C" fn crossover_svf_process(
     out: &mut [f32],
     mode: u32,
 ) -> u8
-    ensures { λ r. ⌜ Runs crossoverFrom crossoverFields (unknownRefusal mode) (each (crossoverNext (modeOf mode))) (puts (crossoverOut (modeOf mode)))
+    ensures { λ r. ⌜ Runs crossoverFrom crossoverFields (unknownRefusal lastMode mode) (each (crossoverNext (modeOf mode))) (puts (crossoverOut (modeOf mode)))
         (now (state .entry)) (within (now («in_» .entry)) (now (out .entry))) (now (out .entry)) r (now (state .exit)) (now (out .exit)) ⌝ }
 {
-    if LAST < mode {
+    if LAST_MODE < mode {
         return UNKNOWN;
     }
     let s = filter_fields::crossover_svf_from(state).process(

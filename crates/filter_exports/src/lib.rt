@@ -13,6 +13,8 @@ pub mod svf_calls;
 // one of four.
 pub(crate) const UNKNOWN: u8 = 100;
 
-// The largest number that names a mode, or an approximation. Such a number is as wide as C's int, so that 256 and -1 arrive whole and are
-// refused: a u8 would have cut 256 to 0, LowPass.
-pub(crate) const LAST: u32 = 3;
+// The largest number that names a mode, and that names an approximation. Such a number is as wide as C's int, so that 256 and -1 arrive
+// whole and are refused: a u8 would have cut 256 to 0, LowPass.
+pub(crate) const LAST_MODE: u32 = 3;
+
+pub(crate) const LAST_APPROXIMATION: u32 = 4;

@@ -1,12 +1,12 @@
 // ModifiedSvf: f, fq, x, lp, bp.
 
-use crate::LAST;
+use crate::LAST_MODE;
 use crate::UNKNOWN;
 use modified_svf::ModifiedSvf;
 ghost use mathlib.Core.Path.{_≡_};
 ghost use Rattle.filter_core.specs.Buffer.{within, each, puts};
 ghost use Rattle.modified_svf.specs.ModifiedSvf.{modifiedNew, modifiedInit, modifiedReset, modifiedSetFFq, modifiedNext, modifiedOut};
-ghost use Rattle.filter_fields.specs.Numbers.{modeOf, unknownRefusal};
+ghost use Rattle.filter_fields.specs.Numbers.{lastMode, modeOf, unknownRefusal};
 ghost use Rattle.filter_fields.specs.Fields.{modifiedFrom, modifiedFields};
 ghost use Rattle.filter_exports.specs.Calls.{Runs};
 
@@ -49,10 +49,10 @@ pub extern "C" fn modified_svf_process(
     out: &mut [f32],
     mode: u32,
 ) -> u8
-    ensures { λ r. ⌜ Runs modifiedFrom modifiedFields (unknownRefusal mode) (each (modifiedNext (modeOf mode))) (puts (modifiedOut (modeOf mode)))
+    ensures { λ r. ⌜ Runs modifiedFrom modifiedFields (unknownRefusal lastMode mode) (each (modifiedNext (modeOf mode))) (puts (modifiedOut (modeOf mode)))
         (now (state .entry)) (within (now («in_» .entry)) (now (out .entry))) (now (out .entry)) r (now (state .exit)) (now (out .exit)) ⌝ }
 {
-    if LAST < mode {
+    if LAST_MODE < mode {
         return UNKNOWN;
     }
     let s = filter_fields::modified_svf_from(state).process(in_, out, filter_fields::mode_of(mode));

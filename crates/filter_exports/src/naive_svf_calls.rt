@@ -1,6 +1,7 @@
 // NaiveSvf: f, damp, lp, bp.
 
-use crate::LAST;
+use crate::LAST_APPROXIMATION;
+use crate::LAST_MODE;
 use crate::UNKNOWN;
 use naive_svf::NaiveSvf;
 ghost use mathlib.Core.Path.{_≡_};
@@ -8,7 +9,7 @@ ghost use Rattle.filter_core.specs.Buffer.{within, each, puts, putsDue};
 ghost use Rattle.filter_core.specs.Refusal.{frequencyRefusal, stepRefusal};
 ghost use Rattle.naive_svf.specs.NaiveSvf.{naiveNew, naiveInit, naiveReset, naiveSetFQ, naiveNext, naiveOut, naiveLow, naiveHigh};
 ghost use Rattle.filter_core.specs.Rows.{_then_};
-ghost use Rattle.filter_fields.specs.Numbers.{modeOf, approximationOf, unknownRefusal};
+ghost use Rattle.filter_fields.specs.Numbers.{lastMode, lastApproximation, modeOf, approximationOf, unknownRefusal};
 ghost use Rattle.filter_fields.specs.Fields.{naiveFrom, naiveFields};
 ghost use Rattle.filter_exports.specs.Calls.{Sets, Answers, Runs, Filters};
 
@@ -41,10 +42,10 @@ pub extern "C" fn naive_svf_set_f_q(
     resonance: f32,
     approximation: u32,
 ) -> u8
-    ensures { λ r. ⌜ Sets (unknownRefusal approximation then frequencyRefusal f (approximationOf approximation))
+    ensures { λ r. ⌜ Sets (unknownRefusal lastApproximation approximation then frequencyRefusal f (approximationOf approximation))
         (now (state .entry)) (naiveFields (naiveSetFQ (naiveFrom (now (state .entry))) f resonance (approximationOf approximation))) r (now (state .exit)) ⌝ }
 {
-    if LAST < approximation {
+    if LAST_APPROXIMATION < approximation {
         return UNKNOWN;
     }
     let t = filter_fields::naive_svf_from(state).set_f_q(
@@ -76,10 +77,10 @@ pub extern "C" fn naive_svf_bp(state: &[f32; 4]) -> f32
 // Refused with UNKNOWN, as each call below that takes a mode.
 #[no_mangle]
 pub extern "C" fn naive_svf_process(state: &mut [f32; 4], in_: f32, mode: u32, out: &mut f32) -> u8
-    ensures { λ r. ⌜ Answers (unknownRefusal mode) (now (state .entry)) (naiveFields (naiveNext (naiveFrom (now (state .entry))) «in_»))
+    ensures { λ r. ⌜ Answers (unknownRefusal lastMode mode) (now (state .entry)) (naiveFields (naiveNext (naiveFrom (now (state .entry))) «in_»))
         (now (out .entry)) (naiveOut (modeOf mode) (naiveFrom (now (state .entry))) «in_») r (now (state .exit)) (now (out .exit)) ⌝ }
 {
-    if LAST < mode {
+    if LAST_MODE < mode {
         return UNKNOWN;
     }
     let t = filter_fields::naive_svf_from(state).process(in_, filter_fields::mode_of(mode));
@@ -95,10 +96,10 @@ pub extern "C" fn naive_svf_process_buffer(
     out: &mut [f32],
     mode: u32,
 ) -> u8
-    ensures { λ r. ⌜ Runs naiveFrom naiveFields (unknownRefusal mode) (each naiveNext) (puts (naiveOut (modeOf mode)))
+    ensures { λ r. ⌜ Runs naiveFrom naiveFields (unknownRefusal lastMode mode) (each naiveNext) (puts (naiveOut (modeOf mode)))
         (now (state .entry)) (within (now («in_» .entry)) (now (out .entry))) (now (out .entry)) r (now (state .exit)) (now (out .exit)) ⌝ }
 {
-    if LAST < mode {
+    if LAST_MODE < mode {
         return UNKNOWN;
     }
     let s = filter_fields::naive_svf_from(state).process_buffer(
@@ -138,10 +139,10 @@ pub extern "C" fn naive_svf_process_decimate(
     decimate: usize,
     mode: u32,
 ) -> u8
-    ensures { λ r. ⌜ Runs naiveFrom naiveFields (unknownRefusal mode then stepRefusal decimate) (each naiveNext) (putsDue decimate (naiveOut (modeOf mode)))
+    ensures { λ r. ⌜ Runs naiveFrom naiveFields (unknownRefusal lastMode mode then stepRefusal decimate) (each naiveNext) (putsDue decimate (naiveOut (modeOf mode)))
         (now (state .entry)) (within (now («in_» .entry)) (now (out .entry))) (now (out .entry)) r (now (state .exit)) (now (out .exit)) ⌝ }
 {
-    if LAST < mode {
+    if LAST_MODE < mode {
         return UNKNOWN;
     }
     let t = filter_fields::naive_svf_from(state).process_decimate(

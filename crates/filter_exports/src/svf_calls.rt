@@ -1,6 +1,7 @@
 // Svf: g, r, h, state_1, state_2.
 
-use crate::LAST;
+use crate::LAST_APPROXIMATION;
+use crate::LAST_MODE;
 use crate::UNKNOWN;
 use svf::Svf;
 ghost use mathlib.Core.Path.{_≡_};
@@ -9,7 +10,7 @@ ghost use Rattle.filter_core.specs.Refusal.{frequencyRefusal, stepRefusal};
 ghost use Rattle.svf.specs.Svf.{svfNew, svfInit, svfReset, svfSet, svfSetGRH, svfSetGR, svfSetGQ, svfSetFQ};
 ghost use Rattle.svf.specs.Svf.{svfNext, svfOut, svfGained, svfMultimode};
 ghost use Rattle.filter_core.specs.Rows.{_then_};
-ghost use Rattle.filter_fields.specs.Numbers.{modeOf, approximationOf, unknownRefusal};
+ghost use Rattle.filter_fields.specs.Numbers.{lastMode, lastApproximation, modeOf, approximationOf, unknownRefusal};
 ghost use Rattle.filter_fields.specs.Fields.{svfFrom, svfFields};
 ghost use Rattle.filter_exports.specs.Calls.{Sets, Answers, Runs, Filters};
 
@@ -72,10 +73,10 @@ pub extern "C" fn svf_set_f_q(
     resonance: f32,
     approximation: u32,
 ) -> u8
-    ensures { λ r. ⌜ Sets (unknownRefusal approximation then frequencyRefusal f (approximationOf approximation))
+    ensures { λ r. ⌜ Sets (unknownRefusal lastApproximation approximation then frequencyRefusal f (approximationOf approximation))
         (now (state .entry)) (svfFields (svfSetFQ (svfFrom (now (state .entry))) f resonance (approximationOf approximation))) r (now (state .exit)) ⌝ }
 {
-    if LAST < approximation {
+    if LAST_APPROXIMATION < approximation {
         return UNKNOWN;
     }
     let t = filter_fields::svf_from(state).set_f_q(
@@ -114,10 +115,10 @@ pub extern "C" fn svf_h(state: &[f32; 5]) -> f32
 // Refused with UNKNOWN, as each call below that takes a mode.
 #[no_mangle]
 pub extern "C" fn svf_process(state: &mut [f32; 5], in_: f32, mode: u32, out: &mut f32) -> u8
-    ensures { λ r. ⌜ Answers (unknownRefusal mode) (now (state .entry)) (svfFields (svfNext (svfFrom (now (state .entry))) «in_»))
+    ensures { λ r. ⌜ Answers (unknownRefusal lastMode mode) (now (state .entry)) (svfFields (svfNext (svfFrom (now (state .entry))) «in_»))
         (now (out .entry)) (svfOut (modeOf mode) (svfFrom (now (state .entry))) «in_») r (now (state .exit)) (now (out .exit)) ⌝ }
 {
-    if LAST < mode {
+    if LAST_MODE < mode {
         return UNKNOWN;
     }
     let t = filter_fields::svf_from(state).process(in_, filter_fields::mode_of(mode));
@@ -135,15 +136,15 @@ pub extern "C" fn svf_process_dual(
     mode_1: u32,
     mode_2: u32,
 ) -> u8
-    ensures first { λ r. ⌜ Answers (unknownRefusal «mode_1» then unknownRefusal «mode_2») (now (state .entry)) (svfFields (svfNext (svfFrom (now (state .entry))) «in_»))
+    ensures first { λ r. ⌜ Answers (unknownRefusal lastMode «mode_1» then unknownRefusal lastMode «mode_2») (now (state .entry)) (svfFields (svfNext (svfFrom (now (state .entry))) «in_»))
         (now («out_1» .entry)) (svfOut (modeOf «mode_1») (svfFrom (now (state .entry))) «in_») r (now (state .exit)) (now («out_1» .exit)) ⌝ }
-    ensures second { λ r. ⌜ Answers (unknownRefusal «mode_1» then unknownRefusal «mode_2») (now (state .entry)) (svfFields (svfNext (svfFrom (now (state .entry))) «in_»))
+    ensures second { λ r. ⌜ Answers (unknownRefusal lastMode «mode_1» then unknownRefusal lastMode «mode_2») (now (state .entry)) (svfFields (svfNext (svfFrom (now (state .entry))) «in_»))
         (now («out_2» .entry)) (svfOut (modeOf «mode_2») (svfFrom (now (state .entry))) «in_») r (now (state .exit)) (now («out_2» .exit)) ⌝ }
 {
-    if LAST < mode_1 {
+    if LAST_MODE < mode_1 {
         return UNKNOWN;
     }
-    if LAST < mode_2 {
+    if LAST_MODE < mode_2 {
         return UNKNOWN;
     }
     let s = filter_fields::svf_from(state).process_dual(
@@ -164,10 +165,10 @@ pub extern "C" fn svf_process_buffer(
     out: &mut [f32],
     mode: u32,
 ) -> u8
-    ensures { λ r. ⌜ Runs svfFrom svfFields (unknownRefusal mode) (each svfNext) (puts (svfOut (modeOf mode)))
+    ensures { λ r. ⌜ Runs svfFrom svfFields (unknownRefusal lastMode mode) (each svfNext) (puts (svfOut (modeOf mode)))
         (now (state .entry)) (within (now («in_» .entry)) (now (out .entry))) (now (out .entry)) r (now (state .exit)) (now (out .exit)) ⌝ }
 {
-    if LAST < mode {
+    if LAST_MODE < mode {
         return UNKNOWN;
     }
     let s = filter_fields::svf_from(state).process_buffer(in_, out, filter_fields::mode_of(mode));
@@ -184,10 +185,10 @@ pub extern "C" fn svf_process_add_buffer(
     gain: f32,
     mode: u32,
 ) -> u8
-    ensures { λ r. ⌜ Runs svfFrom svfFields (unknownRefusal mode) (each svfNext) (puts (svfGained (modeOf mode) gain))
+    ensures { λ r. ⌜ Runs svfFrom svfFields (unknownRefusal lastMode mode) (each svfNext) (puts (svfGained (modeOf mode) gain))
         (now (state .entry)) (within (now («in_» .entry)) (now (out .entry))) (now (out .entry)) r (now (state .exit)) (now (out .exit)) ⌝ }
 {
-    if LAST < mode {
+    if LAST_MODE < mode {
         return UNKNOWN;
     }
     let s = filter_fields::svf_from(state).process_add_buffer(
@@ -209,10 +210,10 @@ pub extern "C" fn svf_process_stride_buffer(
     stride: usize,
     mode: u32,
 ) -> u8
-    ensures { λ r. ⌜ Runs svfFrom svfFields (unknownRefusal mode then stepRefusal stride) (eachDue stride svfNext) (putsDue stride (svfOut (modeOf mode)))
+    ensures { λ r. ⌜ Runs svfFrom svfFields (unknownRefusal lastMode mode then stepRefusal stride) (eachDue stride svfNext) (putsDue stride (svfOut (modeOf mode)))
         (now (state .entry)) (within (now («in_» .entry)) (now (out .entry))) (now (out .entry)) r (now (state .exit)) (now (out .exit)) ⌝ }
 {
-    if LAST < mode {
+    if LAST_MODE < mode {
         return UNKNOWN;
     }
     let t = filter_fields::svf_from(state).process_stride_buffer(
@@ -252,12 +253,12 @@ pub extern "C" fn svf_process_add_dual_buffer(
     gain_2: f32,
     mode: u32,
 ) -> u8
-    ensures first { λ r. ⌜ Runs svfFrom svfFields (unknownRefusal mode) (each svfNext) (puts (svfGained (modeOf mode) «gain_1»)) (now (state .entry))
+    ensures first { λ r. ⌜ Runs svfFrom svfFields (unknownRefusal lastMode mode) (each svfNext) (puts (svfGained (modeOf mode) «gain_1»)) (now (state .entry))
         (within (within (now («in_» .entry)) (now («out_1» .entry))) (now («out_2» .entry))) (now («out_1» .entry)) r (now (state .exit)) (now («out_1» .exit)) ⌝ }
-    ensures second { λ r. ⌜ Runs svfFrom svfFields (unknownRefusal mode) (each svfNext) (puts (svfGained (modeOf mode) «gain_2»)) (now (state .entry))
+    ensures second { λ r. ⌜ Runs svfFrom svfFields (unknownRefusal lastMode mode) (each svfNext) (puts (svfGained (modeOf mode) «gain_2»)) (now (state .entry))
         (within (within (now («in_» .entry)) (now («out_1» .entry))) (now («out_2» .entry))) (now («out_2» .entry)) r (now (state .exit)) (now («out_2» .exit)) ⌝ }
 {
-    if LAST < mode {
+    if LAST_MODE < mode {
         return UNKNOWN;
     }
     let s = filter_fields::svf_from(state).process_add_dual_buffer(

@@ -1,6 +1,6 @@
 // What the exported functions take for a filter, a mode and an approximation. A filter is the array of its fields, in the source's
-// order. A mode and an approximation are numbers, in the source's order of declaration:
-// 0 LowPass, 1 BandPass, 2 BandPassNormalized, 3 HighPass; 0 Exact, 1 Accurate, 2 Fast, 3 Dirty.
+// order. A mode and an approximation are numbers, in their order of declaration:
+// 0 LowPass, 1 BandPass, 2 BandPassNormalized, 3 HighPass; 0 Exact, 1 Accurate, 2 Fast, 3 Dirty, 4 Series.
 
 use crossover_svf::CrossoverSvf;
 use dc_blocker::DcBlocker;
@@ -33,7 +33,8 @@ pub fn approximation_of(n: u32) -> FrequencyApproximation
         0 => FrequencyApproximation::Exact,
         1 => FrequencyApproximation::Accurate,
         2 => FrequencyApproximation::Fast,
-        _ => FrequencyApproximation::Dirty,
+        3 => FrequencyApproximation::Dirty,
+        _ => FrequencyApproximation::Series,
     }
 }
 

@@ -81,12 +81,13 @@ fn take_lines(state: State, start: Start, text: &[u8], out: &mut [u8]) -> Taken 
         if end == text.len() {
             break;
         }
+        let line = &text[from..end];
+        from = end + 1;
         lines = one_more(lines);
-        now = answer(now, lines, &text[from..end], out);
+        now = answer(now, lines, line, out);
         let sent = send_if_enough(out, now.at);
         now.at = sent.at;
         going = sent.going;
-        from = end + 1;
     }
     let last = now.frame;
     Taken {

@@ -56,4 +56,4 @@ write-row l out h =
 
 pub write-by-rows : WriteByRows
 write-by-rows l n nothing out = write-row l out (omega arith)
-write-by-rows l n (of-sheet h) out = write-row l out (h .size .most)
+write-by-rows l n (of-sheet h) out = write-row l out (h .size .fits .most)

@@ -1,5 +1,5 @@
 -- Writing a library. Assumes nothing.
-use Prim.Native.Nat.{ℕ, _+_, _*_, _%_, _/_, _≤_, _<_}
+use Prim.Native.Nat.{ℕ, _+_, _*_, _%_, _≤_, _<_}
 use mathlib.Core.Path.{_≡_, refl, sym, ap, _∙_}
 use mathlib.Core.Bool.{Bool, true, false}
 use mathlib.Core.List.{List, [], _∷_, map}
@@ -10,6 +10,7 @@ use borrow.Author.Tests.{eqb-true, lt-ltb}
 use lib.Dec.{eqb}
 use lib.ListN.{length, take, length-append}
 use lib.Seq.{length-take-le}
+use Rattle.sheets.specs.Edition.{editionByte}
 use Rattle.lists.specs.Over.{over}
 use Rattle.lists.proofs.Over.{over-append, over-front}
 use Rattle.filter_core.proofs.Choices.{either-way}
@@ -33,18 +34,18 @@ module _ (l : List ℕ) (n : ℕ) (h : n ≤ 64) where
   pub settings-count : length (map (λ (v : ℕ). v) l) ≡ 768 → 12 * n ≡ length (take (12 * n) l)
   settings-count e = sym (length-take-le (12 * n) l (settings-room e))
 
--- the sheet of a library, as it is put together: n, the kind bytes, the settings
+-- the sheet of a library, as it is put together: n, the edition, the kind bytes, the settings
 pub put-together : (l : Library) {a b : ℕ} {w x y : List ℕ} → length (map (λ (v : ℕ). v) (l .kinds)) ≡ 64 → l .n ≤ 64
-    → a ≡ l .n % 256 → b ≡ l .n / 256 % 256 → w ≡ over 0 (a ∷ b ∷ []) (zeroBytes 834) → x ≡ over 2 (take (l .n) (l .kinds)) w
+    → a ≡ l .n % 256 → b ≡ editionByte (l .edition) → w ≡ over 0 (a ∷ b ∷ []) (zeroBytes 834) → x ≡ over 2 (take (l .n) (l .kinds)) w
     → y ≡ over (2 + l .n) (take (12 * l .n) (l .settings)) x → y ≡ over 0 (bytesOf l) (zeroBytes 834)
 put-together l {a} {b} {w} {x} {y} k h p q d e f =
     let n = l .n in
     let K = take n (l .kinds) in
-    let v : b ≡ n / 256 = q ∙ omega arith in
+    let v : a ≡ n = p ∙ omega arith in
     let c = kinds-count (l .kinds) n h k in
     let head : x ≡ over 0 (a ∷ b ∷ K) (zeroBytes 834) = e ∙ ap (over 2 K) d ∙ over-append 0 (a ∷ b ∷ []) K (zeroBytes 834) in
     let place : 2 + n ≡ 0 + length (a ∷ b ∷ K) = omega arith in
-    f ∙ rw (place, head) (over-append 0 (a ∷ b ∷ K) (take (12 * n) (l .settings)) (zeroBytes 834) ∙ rw (p, v) refl)
+    f ∙ rw (place, head) (over-append 0 (a ∷ b ∷ K) (take (12 * n) (l .settings)) (zeroBytes 834) ∙ rw (v, q) refl)
 
 -- ---- what is written of it
 
@@ -64,7 +65,7 @@ part-count l k e h = sym (length-take-le k l (omega arith))
 
 length-bytes : (l : Library) → length (l .kinds) ≡ 64 → length (l .settings) ≡ 768 → l .n ≤ 64 → length (bytesOf l) ≡ 2 + 13 * l .n
 length-bytes l k s h =
-    let a = length-append (l .n % 256 ∷ l .n / 256 ∷ take (l .n) (l .kinds)) (take (12 * l .n) (l .settings)) in
+    let a = length-append (l .n ∷ editionByte (l .edition) ∷ take (l .n) (l .kinds)) (take (12 * l .n) (l .settings)) in
     let b = length-take-le (l .n) (l .kinds) (omega arith) in
     let c = length-take-le (12 * l .n) (l .settings) (omega arith) in
     omega arith

@@ -1,11 +1,13 @@
--- A library: a sheet's entries, held by value.
-use Prim.Native.Nat.{ℕ, _+_, _*_, _%_, _/_}
+-- A library: a sheet's entries and its edition, held by value.
+use Prim.Native.Nat.{ℕ, _+_, _*_}
 use mathlib.Core.Bool.{cond}
 use mathlib.Core.List.{List, _∷_, _++_}
 use lib.Dec.{eqb, ltb}
 use lib.ListN.{length, getD, take, drop, replicate}
 use Rattle.lists.specs.Over.{over}
-use Rattle.sheets.specs.Sheet.{entriesOf, entryOf, checkOf}
+use Rattle.sheets.specs.Edition.{editionByte}
+use Rattle.sheets.specs.Sheet.{entriesOf, editionIn, entryOf, checkOf}
+use Rattle.sheets.specs.declared.edition.Edition.the-variants.{One}
 use Rattle.sheets.specs.declared.entry.Entry.{Entry}
 use Rattle.library.specs.declared.Library.{Library}
 use Rattle.library.specs.declared.Reading.{Reading}
@@ -17,11 +19,17 @@ zeroBytes m = replicate m 0
 -- ---- reading
 
 abbrev pub none : Library
-none = record { n = 0; kinds = zeroBytes 64; settings = zeroBytes 768 }
+none = record { n = 0; edition = One; kinds = zeroBytes 64; settings = zeroBytes 768 }
 
--- the library of a sheet: its kind bytes and its settings, each with zeros behind
+-- the library of a sheet: its edition, its kind bytes and its settings, these with zeros behind
 abbrev pub libraryOf : List ℕ → Library
-libraryOf s = record { n = entriesOf s; kinds = over 0 (take (entriesOf s) (drop 2 s)) (zeroBytes 64); settings = over 0 (drop (2 + entriesOf s) s) (zeroBytes 768) }
+libraryOf s =
+    record {
+      n = entriesOf s;
+      edition = editionIn s;
+      kinds = over 0 (take (entriesOf s) (drop 2 s)) (zeroBytes 64);
+      settings = over 0 (drop (2 + entriesOf s) s) (zeroBytes 768);
+    }
 
 -- what is no sheet has no library
 abbrev pub readOf : List ℕ → Reading
@@ -39,7 +47,7 @@ entryAt l e = entryOf (getD (l .kinds) e 0) (settingIn l e)
 
 -- the sheet of a library
 abbrev pub bytesOf : Library → List ℕ
-bytesOf l = (l .n % 256 ∷ l .n / 256 ∷ take (l .n) (l .kinds)) ++ take (12 * l .n) (l .settings)
+bytesOf l = (l .n ∷ editionByte (l .edition) ∷ take (l .n) (l .kinds)) ++ take (12 * l .n) (l .settings)
 
 -- `size`, then `short` of the refusal table, for an output of m places; no library of a sheet has more than 64 entries
 abbrev pub writeRefusal : ℕ → ℕ → ℕ

@@ -3,7 +3,7 @@ use Prim.Native.Nat.{ℕ, _≤_, _<_}
 use mathlib.Core.Path.{_≡_}
 use mathlib.Core.List.{List, _++_}
 use lib.ListN.{length, take, drop}
-use Rattle.sheets.specs.Sheet.{entriesOf, entryIn}
+use Rattle.sheets.specs.Sheet.{entriesOf, editionIn, entryIn}
 use Rattle.sheets.specs.Rows.{Sheet}
 use Rattle.library.specs.declared.Library.{Library}
 use Rattle.library.specs.Library.{libraryOf, readOf, entryAt, writeOf, writtenOf}
@@ -28,9 +28,10 @@ RefusedWrite = (l : Library) (out : List ℕ) → (writeOf l out .number ≡ 0 �
 abbrev pub OneSheet : Type 0
 OneSheet = (s t : List ℕ) → Sheet s → Sheet t → libraryOf s ≡ libraryOf t → s ≡ t
 
--- the entries of the library are those of the sheet, as they stand there
+-- the entries of the library are those of the sheet, as they stand there, and its edition too
 pub record Same (s : List ℕ) : Type 0 where
   pub number : libraryOf s .n ≡ entriesOf s
+  pub edition : libraryOf s .edition ≡ editionIn s
   pub most : libraryOf s .n ≤ 64
   pub entry : (e : ℕ) → e < entriesOf s → entryAt (libraryOf s) e ≡ entryIn s e
 

@@ -1,17 +1,19 @@
-// A library: a sheet's entries, held by value.
+// A library: a sheet's entries and its edition, held by value.
 
 ghost use mathlib.Core.Path.{_≡_};
 ghost use Prim.Native.Nat.{_%_, _≤_};
 ghost use Rattle.lists.specs.Over.{over};
-ghost use Rattle.sheets.specs.Sheet.{entriesOf, Sized};
+ghost use Rattle.sheets.specs.Sheet.{entriesOf, Fits};
 ghost use Rattle.library.specs.Library.{zeroBytes, none, libraryOf, readOf, bytesOf, writeRefusal, writtenLength, writeOf, writtenOf, entryAt};
 ghost use Rattle.library.specs.Rows.{WriteByRows};
 ghost use Rattle.library.specs.RoundTrip.{ReadWrite, WriteRead, RefusedWrite, OneSheet, SameEntries};
+use sheets::Edition;
 use sheets::Entry;
 
 // The places of `kinds` and `settings` past the n entries are zeros, so a library is one value.
 pub struct Library {
     pub n: usize,
+    pub edition: Edition,
     pub kinds: [u8; 64],
     pub settings: [u8; 768],
 }
@@ -32,13 +34,14 @@ pub fn none() -> Library
 {
     Library {
         n: 0,
+        edition: Edition::One,
         kinds: [0u8; 64],
         settings: [0u8; 768],
     }
 }
 
 fn library_of(sheet: &[u8], n: usize) -> Library
-    requires { ⌜ Sized (now sheet) × (n ≡ entriesOf (now sheet)) ⌝ }
+    requires { ⌜ Fits n (now sheet) × (n ≡ entriesOf (now sheet)) ⌝ }
     ensures { λ r. ⌜ r ≡ libraryOf (now (sheet .entry)) ⌝ }
 {
     let end = 2 + n;
@@ -48,6 +51,7 @@ fn library_of(sheet: &[u8], n: usize) -> Library
     lists::copy(&sheet[end..], &mut settings, 0);
     Library {
         n: n,
+        edition: sheets::edition_in(sheet),
         kinds: kinds,
         settings: settings,
     }
@@ -105,8 +109,9 @@ fn sheet_of(library: Library) -> [u8; 834]
     if 64 < n {
         return bytes;
     }
-    let count = [low_byte(n), low_byte(n / 256)];
-    lists::copy(&count, &mut bytes, 0);
+    let edition = library.edition;
+    let front = [low_byte(n), sheets::edition_byte(edition)];
+    lists::copy(&front, &mut bytes, 0);
     let kinds = library.kinds;
     lists::copy(&kinds[..n], &mut bytes, 2);
     let settings = library.settings;
@@ -172,7 +177,7 @@ pub fn one_sheet()
     ensures { λ _. ⌜ OneSheet ⌝ }
 {}
 
-// The library's entries are the sheet's.
+// The library's entries and its edition are the sheet's.
 pub fn same_entries()
     ensures { λ _. ⌜ SameEntries ⌝ }
 {}

@@ -1,3 +1,4 @@
 pub mod Loads
 pub mod Rest
 pub mod Set
+pub mod Editions

@@ -1,3 +1,4 @@
 pub mod Load
 pub mod Rest
 pub mod Set
+pub mod Editions

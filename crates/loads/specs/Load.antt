@@ -10,7 +10,8 @@ use Rattle.modified_svf.specs.ModifiedSvf.{modifiedNew, modifiedSetFFq}
 use Rattle.crossover_svf.specs.CrossoverSvf.{crossoverNew, crossoverSetFFq}
 use Rattle.any_filter.specs.Cases.{ofDc, ofOnePole, ofSvf, ofNaive, ofModified, ofCrossover}
 use Rattle.any_filter.specs.declared.Filter.{Filter}
-use Rattle.sheets.specs.Kind.{setterOf}
+use Rattle.sheets.specs.Kind.{setterIn, setterOf}
+use Rattle.sheets.specs.declared.edition.Edition.{Edition}
 use Rattle.sheets.specs.declared.entry.Entry.{Entry}
 use Rattle.sheets.specs.declared.setter.Setter.{Setter}
 use Rattle.sheets.specs.declared.setter.Setter.the-variants.{DcBlocker, OnePole, SvfFrequency, SvfCoefficients, NaiveSvf, ModifiedSvf, CrossoverSvf, Unknown}
@@ -27,5 +28,10 @@ filterFor ModifiedSvf a b c = ofModified (modifiedSetFFq modifiedNew a b)
 filterFor CrossoverSvf a b c = ofCrossover (crossoverSetFFq crossoverNew a b)
 filterFor Unknown a b c = ofDc (dcInit dcNew a)
 
+-- the filter of an entry, its kind byte read as the edition v has it
+abbrev pub filterIn : Edition → Entry → Filter
+filterIn v e = filterFor (setterIn v (e .kind)) (word (e .a)) (word (e .b)) (word (e .c))
+
+-- a load asks for no edition: an entry that its edition takes makes the same filter in both (Editions.antt)
 abbrev pub filterOf : Entry → Filter
 filterOf e = filterFor (setterOf (e .kind)) (word (e .a)) (word (e .b)) (word (e .c))

@@ -8,6 +8,7 @@ use Rattle.naive_svf.specs.NaiveSvf.{naiveNew, naiveSetFQ}
 use Rattle.any_filter.specs.Cases.{ofOnePole, ofSvf, ofNaive}
 use Rattle.sheets.specs.Kind.{setterOf}
 use Rattle.sheets.specs.Refusal.{entryRefusal}
+use Rattle.sheets.specs.declared.edition.Edition.{Edition}
 use Rattle.sheets.specs.declared.entry.Entry.{Entry}
 use Rattle.sheets.specs.declared.setter.Setter.the-variants.{OnePole, SvfFrequency, NaiveSvf}
 use Rattle.loads.specs.Load.{filterOf}
@@ -19,4 +20,4 @@ pub record LoadsSet (t : Entry) (p : FrequencyApproximation) : Type 0 where
   pub naive : setterOf (t .kind) ≡ NaiveSvf p → filterOf t ≡ ofNaive (naiveSetFQ naiveNew (word (t .a)) (word (t .b)) p)
 
 abbrev pub LoadsAreSet : Type 0
-LoadsAreSet = (t : Entry) (p : FrequencyApproximation) → entryRefusal t ≡ 0 → LoadsSet t p
+LoadsAreSet = (v : Edition) (t : Entry) (p : FrequencyApproximation) → entryRefusal v t ≡ 0 → LoadsSet t p

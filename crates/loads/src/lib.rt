@@ -13,6 +13,7 @@ ghost use mathlib.Core.Path.{_≡_};
 ghost use Rattle.loads.specs.Load.{filterFor, filterOf};
 ghost use Rattle.loads.specs.Rest.{LoadsAtRest};
 ghost use Rattle.loads.specs.Set.{LoadsAreSet};
+ghost use Rattle.loads.specs.Editions.{LoadsInBothEditions};
 
 // New of the setter's type, and then the setter. It takes as many of the three numbers as it has parameters.
 fn filter_for(setter: Setter, a: f32, b: f32, c: f32) -> Filter
@@ -60,4 +61,9 @@ pub fn loads_at_rest()
 // What a load makes of an entry that the check takes is what the setter makes: no setter refuses it.
 pub fn loads_are_set()
     ensures { λ _. ⌜ LoadsAreSet ⌝ }
+{}
+
+// A load asks for no edition: an entry that its edition takes makes one filter, and a sheet of edition 1 the filters that it made before.
+pub fn loads_in_both_editions()
+    ensures { λ _. ⌜ LoadsInBothEditions ⌝ }
 {}

@@ -3,7 +3,7 @@ use mathlib.Core.Path.{_≡_}
 use lib.Ieee.{Float}
 use borrow.Author.Needs.{needs}
 use Rattle.filter_core.specs.declared.FrequencyApproximation.{FrequencyApproximation}
-use Rattle.filter_core.specs.declared.FrequencyApproximation.the-variants.{Exact, Accurate, Fast, Dirty}
+use Rattle.filter_core.specs.declared.FrequencyApproximation.the-variants.{Exact, Accurate, Fast, Dirty, Series}
 use Rattle.naive_svf.specs.Sine.{naiveExact, naiveLinear, naiveFrequency}
 
 module _ (f : Float) {v : Float} {a : FrequencyApproximation} where
@@ -19,4 +19,7 @@ module _ (f : Float) {v : Float} {a : FrequencyApproximation} where
   pub by-dirty : a ≡ Dirty → v ≡ naiveLinear f → v ≡ naiveFrequency f a
   by-dirty e v = rw e v
 
-pub ruleset frequencies = (by-exact, by-accurate, by-fast, by-dirty, needs)
+  pub by-series : a ≡ Series → v ≡ naiveLinear f → v ≡ naiveFrequency f a
+  by-series e v = rw e v
+
+pub ruleset frequencies = (by-exact, by-accurate, by-fast, by-dirty, by-series, needs)

@@ -6,7 +6,7 @@ use Rattle.filter_core.specs.Arithmetic.{_*ᶠ_, word, oneᶠ, twoᶠ, πᶠ}
 use Rattle.filter_core.specs.Series.{horner}
 use Rattle.filter_core.specs.Odd.{odd, OddFrom}
 use Rattle.filter_core.specs.declared.FrequencyApproximation.{FrequencyApproximation}
-use Rattle.filter_core.specs.declared.FrequencyApproximation.the-variants.{Exact, Accurate, Fast, Dirty}
+use Rattle.filter_core.specs.declared.FrequencyApproximation.the-variants.{Exact, Accurate, Fast, Dirty, Series}
 
 -- the limit where f is not below it, so at a NaN too
 abbrev pub clipAt : Float → Float → Float
@@ -39,6 +39,7 @@ naiveFrequency f Exact = naiveExact f
 naiveFrequency f Accurate = naiveLinear f
 naiveFrequency f Fast = naiveLinear f
 naiveFrequency f Dirty = naiveLinear f
+naiveFrequency f Series = naiveLinear f
 
 -- Exact's coefficient is odd
 abbrev pub SineIsOdd : Type 0

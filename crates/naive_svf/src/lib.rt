@@ -135,6 +135,7 @@ impl NaiveSvf {
             FrequencyApproximation::Accurate => Self::linear_frequency(f),
             FrequencyApproximation::Fast => Self::linear_frequency(f),
             FrequencyApproximation::Dirty => Self::linear_frequency(f),
+            FrequencyApproximation::Series => Self::linear_frequency(f),
         }
     }
 

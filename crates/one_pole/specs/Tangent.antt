@@ -6,7 +6,7 @@ use Rattle.filter_core.specs.Arithmetic.{_+ᶠ_, _-ᶠ_, _*ᶠ_, _/ᶠ_, word, 
 use Rattle.filter_core.specs.Series.{horner}
 use Rattle.filter_core.specs.Odd.{odd, OddFrom}
 use Rattle.filter_core.specs.declared.FrequencyApproximation.{FrequencyApproximation}
-use Rattle.filter_core.specs.declared.FrequencyApproximation.the-variants.{Exact, Accurate, Fast, Dirty}
+use Rattle.filter_core.specs.declared.FrequencyApproximation.the-variants.{Exact, Accurate, Fast, Dirty, Series}
 
 -- ---- Exact
 
@@ -93,11 +93,18 @@ tanAccurate f =
     let y = f *ᶠ f in
     f *ᶠ (πᶠ +ᶠ y *ᶠ (accurateA +ᶠ y *ᶠ (accurateB +ᶠ y *ᶠ (accurateC +ᶠ y *ᶠ (accurateD +ᶠ y *ᶠ accurateE)))))
 
+-- ---- 02 a's approximation 4
+
+-- T(π f) at every f: not clipped, and no reciprocal
+abbrev pub tanUnclipped : Float → Float
+tanUnclipped f = tanSeries (πᶠ *ᶠ f)
+
 abbrev pub tanOf : Float → FrequencyApproximation → Float
 tanOf f Exact = tanMirrored f
 tanOf f Accurate = tanAccurate f
 tanOf f Fast = tanFast f
 tanOf f Dirty = tanDirty f
+tanOf f Series = tanUnclipped f
 
 -- Exact's tangent is odd
 abbrev pub TangentIsOdd : Type 0

@@ -5,7 +5,7 @@ use filter_core::FrequencyApproximation;
 ghost use mathlib.Core.Path.{_≡_};
 ghost use Rattle.filter_core.specs.Refusal.{frequencyRefusal, unlessRefused};
 ghost use Rattle.filter_core.specs.Arithmetic.{zeroᶠ};
-ghost use Rattle.one_pole.specs.Tangent.{tanSeries, tangent, tanExact, tanMirrored, tanDirty, tanFast, tanAccurate, tanOf, TangentIsOdd};
+ghost use Rattle.one_pole.specs.Tangent.{tanSeries, tangent, tanExact, tanMirrored, tanDirty, tanFast, tanAccurate, tanUnclipped, tanOf, TangentIsOdd};
 ghost use Rattle.one_pole.specs.OnePole.{onePoleNew, onePoleInit, onePoleReset, onePoleSetG, onePoleSetF, onePoleNext, onePoleOut};
 
 pub struct OnePole {
@@ -175,6 +175,13 @@ impl OnePole {
                                         + f2 * (Self::ACCURATE_D + f2 * Self::ACCURATE_E)))))
     }
 
+    // The whole series at every f.
+    fn tan_unclipped(f: f32) -> f32
+        ensures { λ r. ⌜ r ≡ tanUnclipped f ⌝ }
+    {
+        Self::tan_series(Self::PI * f)
+    }
+
     // The value alone, refused or not.
     pub fn tan_value(f: f32, approximation: FrequencyApproximation) -> f32
         ensures { λ r. ⌜ r ≡ tanOf f approximation ⌝ }
@@ -184,6 +191,7 @@ impl OnePole {
             FrequencyApproximation::Accurate => Self::tan_accurate(f),
             FrequencyApproximation::Fast => Self::tan_fast(f),
             FrequencyApproximation::Dirty => Self::tan_dirty(f),
+            FrequencyApproximation::Series => Self::tan_unclipped(f),
         }
     }
 

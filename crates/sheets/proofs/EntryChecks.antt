@@ -8,7 +8,8 @@ use Rattle.filter_core.specs.declared.FrequencyApproximation.{FrequencyApproxim
 use Rattle.words.specs.Word.{wordFrom, otherNan}
 use Rattle.filter_core.proofs.Choices.{deciding}
 use Rattle.sheets.specs.Refusal.{wordFrequencyRefusal, settingRefusal, entryRefusal}
-use Rattle.sheets.specs.Sheet.{kindAt, settingAt, entryOf, entryIn, refusalAt}
+use Rattle.sheets.specs.Sheet.{kindAt, settingBehind, entryOf, entryAmong, refusalAt}
+use Rattle.sheets.specs.declared.edition.Edition.{Edition}
 use Rattle.sheets.specs.declared.entry.Entry.{Entry}
 use Rattle.sheets.specs.declared.setter.Setter.{Setter}
 use Rattle.sheets.specs.declared.setter.Setter.the-variants.{OnePole, SvfFrequency, NaiveSvf}
@@ -37,10 +38,11 @@ pub entry-made : (k : ℕ) (t : List ℕ) {a b c : ℕ} → a ≡ wordFrom t 0 �
 entry-made k t x y z = λ i. record { kind = k; a = x i; b = y i; c = z i }
 
 -- the refusal of an entry, from its bytes
-pub refused-at : (s : List ℕ) (e : ℕ) {k r : ℕ} {x : List ℕ} {t : Entry} → k ≡ kindAt s e → x ≡ settingAt s e → t ≡ entryOf k x → r ≡ entryRefusal t → r ≡ refusalAt s e
-refused-at s e {k} {r} {x} {t} q y g h =
-    let w : t ≡ entryIn s e = g ∙ rw (q, y) refl in
-    h ∙ ap entryRefusal w
+pub refused-at : (v : Edition) (n : ℕ) (s : List ℕ) (e : ℕ) {k r : ℕ} {x : List ℕ} {t : Entry} → k ≡ kindAt s e → x ≡ settingBehind n s e → t ≡ entryOf k x
+    → r ≡ entryRefusal v t → r ≡ refusalAt v n s e
+refused-at v n s e {k} {r} {x} {t} q y g h =
+    let w : t ≡ entryAmong n s e = g ∙ rw (q, y) refl in
+    h ∙ ap (entryRefusal v) w
 
 pub ruleset wording = (nan-told, deciding)
 

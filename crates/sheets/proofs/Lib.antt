@@ -1,6 +1,7 @@
 pub mod KindBytes
 pub mod EntryChecks
 pub mod Checks
+pub mod Editions
 pub mod Setters
 pub mod KindRows
 pub mod EntryRows

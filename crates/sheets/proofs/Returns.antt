@@ -14,7 +14,7 @@ use Rattle.words.specs.Word.{wordFrom, writtenNan, otherNan}
 use Rattle.words.proofs.Words.{comes-back}
 use Rattle.filter_core.proofs.Rows.{passed}
 use Rattle.sheets.specs.Sheet.{entriesOf, settingAt, wordAt, entryIn}
-use Rattle.sheets.specs.Rows.{WordWrong, another-nan, WordsWrong, wrong-a, wrong-b, wrong-c, wordsUsed, wrong-words, EntryRow, Bytes, WordsReturn}
+use Rattle.sheets.specs.Rows.{WordWrong, another-nan, WordsWrong, wrong-a, wrong-b, wrong-c, wordsUsed, wrong-words, RowAt, Bytes, WordsReturn}
 
 bytes-drop : (n : ℕ) (s : List ℕ) → Bytes s → Bytes (drop n s)
 bytes-drop n s b i = rw getD-drop (b (n + i))
@@ -44,7 +44,7 @@ no-other-nan u k w n = go (eqb w writtenNan) (isNan (word w)) refl refl
     go false true p q = absurd (n (another-nan q (eqb-false w writtenNan p)))
     go false false p q = rw (p, q) refl
 
-module _ (s : List ℕ) (e : ℕ) (r : EntryRow (entryIn s e) 0) where
+module _ (s : List ℕ) (e : ℕ) (r : RowAt s e 0) where
   abbrev u : ℕ
   u = wordsUsed (entryIn s e .kind % 16)
 

@@ -10,9 +10,9 @@ use lib.Dec.{eqb, ltb}
 use lib.ListN.{length, drop, length-drop}
 use lib.Seq.{length-take-le}
 use Rattle.filter_core.proofs.Rows.{once, some-then}
-use Rattle.sheets.specs.Sheet.{entriesOf, entryIn, refusalAt, checkOf, entryNumberRefusal, checkEntryOf, lookupOf}
-use Rattle.sheets.specs.Rows.{EntryRow, Sheet, SheetRow, is-sheet, wrong-size, wrong-entry, LookupRow, is-found, no-sheet, no-entry, Checked}
-use Rattle.sheets.proofs.Checks.{Size, right, wrong, size-of, first-found, first-all, found}
+use Rattle.sheets.specs.Sheet.{entriesOf, editionIn, entryIn, checkOf, entryNumberRefusal, checkEntryOf, lookupOf}
+use Rattle.sheets.specs.Rows.{RowAt, Sheet, SheetRow, is-sheet, wrong-size, wrong-entry, LookupRow, is-found, no-sheet, no-entry, Checked}
+use Rattle.sheets.proofs.Checks.{numberAt, Size, right, wrong, size-of, first-found, first-all, found}
 use Rattle.sheets.proofs.EntryRows.{entry-row}
 
 -- ---- the entries: all of the first n are right, or there is a first that is not
@@ -39,33 +39,37 @@ scan f (suc n) = go (scan f n) (eqb (f n) 0) refl
 -- ---- a sheet
 
 module _ (s : List ℕ) where
-  row-at : (e : ℕ) → EntryRow (entryIn s e) (refusalAt s e)
-  row-at e = entry-row (entryIn s e)
+  row-at : (e : ℕ) → RowAt s e (numberAt s e)
+  row-at e = entry-row (editionIn s) (entryIn s e)
 
-  number-at : (e : ℕ) {r : ℕ} → EntryRow (entryIn s e) r → refusalAt s e ≡ r
+  number-at : (e : ℕ) {r : ℕ} → RowAt s e r → numberAt s e ≡ r
   number-at e p = once (row-at e) p
 
   sheet-row : SheetRow s (checkOf s)
-  sheet-row = go (size-of s) (scan (refusalAt s) (entriesOf s))
+  sheet-row = go (size-of s) (scan (numberAt s) (entriesOf s))
     where
-      go : Size s → ((i : ℕ) → i < entriesOf s → refusalAt s i ≡ 0) ⊎ Wrong (refusalAt s) (entriesOf s) → SheetRow s (checkOf s)
+      go : Size s → ((i : ℕ) → i < entriesOf s → numberAt s i ≡ 0) ⊎ Wrong (numberAt s) (entriesOf s) → SheetRow s (checkOf s)
       go (wrong n p) w = rw p (wrong-size n)
-      go (right z p) (inl b) = rw (p, first-all (refusalAt s) (entriesOf s) b) (is-sheet (record { size = z; entries = λ e l. rw (b e l) at (row-at e) }))
+      go (right z p) (inl b) = rw (p, first-all (numberAt s) (entriesOf s) b) (is-sheet (record { size = z; entries = λ e l. rw (b e l) at (row-at e) }))
       go (right z p) (inr w) =
-          let d = first-found (refusalAt s) (entriesOf s) (w .place) (first-all (refusalAt s) (w .place) (w .before)) (w .inside) refl (w .some) in
+          let d = first-found (numberAt s) (entriesOf s) (w .place) (first-all (numberAt s) (w .place) (w .before)) (w .inside) refl (w .some) in
           rw (p, ← d) (wrong-entry (w .place) z (w .inside) (λ i l. rw (w .before i l) at (row-at i)) (row-at (w .place)) (w .some))
 
   sheet-only : {r : ℕ} → SheetRow s r → r ≡ checkOf s
   sheet-only p = go (size-of s) p
     where
       go : {r : ℕ} → Size s → SheetRow s r → r ≡ checkOf s
-      go (right z e) (is-sheet h) = rw (e, first-all (refusalAt s) (entriesOf s) (λ i l. number-at i (h .entries i l))) refl
+      go (right z e) (is-sheet h) = rw (e, first-all (numberAt s) (entriesOf s) (λ i l. number-at i (h .entries i l))) refl
       go (right z e) (wrong-size n) = absurd (n z)
       go (right z e) (wrong-entry i y l b p d) =
-          rw e (first-found (refusalAt s) (entriesOf s) i (first-all (refusalAt s) i (λ j k. number-at j (b j k))) l (sym (number-at i p)) d)
+          rw e (first-found (numberAt s) (entriesOf s) i (first-all (numberAt s) i (λ j k. number-at j (b j k))) l (sym (number-at i p)) d)
       go (wrong n e) (is-sheet h) = absurd (n (h .size))
       go (wrong n e) (wrong-size m) = rw e refl
       go (wrong n e) (wrong-entry i z l b p d) = absurd (n z)
+
+  -- an entry of a sheet is not refused
+  pub entry-taken : Sheet s → (e : ℕ) → e < entriesOf s → numberAt s e ≡ 0
+  entry-taken h e l = number-at e (h .entries e l)
 
   is-zero : {r : ℕ} → SheetRow s r → r ≡ 0 → Sheet s
   is-zero (is-sheet h) z = h
@@ -97,9 +101,9 @@ module _ (s : List ℕ) (e : ℕ) where
 
   lookup-part : checkEntryOf s e ≡ 0 → length (lookupOf s e) ≡ 12
   lookup-part z =
-      let f = found s e z in
-      let l = f .size .long in
-      let i = f .entry in
+      let f = found s e refl refl z in
+      let l = f .0 .long in
+      let i = f .1 in
       let d = length-drop (2 + entriesOf s + 12 * e) s in
       rw z (length-take-le 12 (drop (2 + entriesOf s + 12 * e) s) (omega arith))
 

@@ -6,9 +6,10 @@ use Rattle.filter_core.specs.Refusal.{frequencyRefusal}
 use Rattle.filter_core.specs.Rows.{_then_}
 use Rattle.filter_core.specs.declared.FrequencyApproximation.{FrequencyApproximation}
 use Rattle.filter_core.proofs.Rows.{then-zero}
-use Rattle.sheets.specs.Kind.{setterOf, kindRefusal}
+use Rattle.sheets.specs.Kind.{setterIn, kindRefusal}
 use Rattle.sheets.specs.Refusal.{used, wordsRefusal, wordFrequencyRefusal, settingRefusal, entryRefusal}
 use Rattle.sheets.specs.Setters.{FrequencySetter, one-pole, svf, naive, AsSetters}
+use Rattle.sheets.specs.declared.edition.Edition.{Edition}
 use Rattle.sheets.specs.declared.entry.Entry.{Entry}
 use Rattle.sheets.specs.declared.setter.Setter.{Setter}
 
@@ -27,15 +28,15 @@ module _ {p : FrequencyApproximation} (a : ℕ) where
   by-frequency svf = by-setter a p
   by-frequency naive = by-setter a p
 
-module _ (t : Entry) (p : FrequencyApproximation) (f : FrequencySetter (setterOf (t .kind)) p) where
-  same : wordsRefusal (used (setterOf (t .kind))) t ≡ 0 → entryRefusal t ≡ frequencyRefusal (word (t .a)) p
+module _ (v : Edition) (t : Entry) (p : FrequencyApproximation) (f : FrequencySetter (setterIn v (t .kind)) p) where
+  same : wordsRefusal (used (setterIn v (t .kind))) t ≡ 0 → entryRefusal v t ≡ frequencyRefusal (word (t .a)) p
   unfolding entryRefusal
   same w = rw (right-kind (t .a) f, w) (by-frequency (t .a) f)
 
-  taken : entryRefusal t ≡ 0 → frequencyRefusal (word (t .a)) p ≡ 0
+  taken : entryRefusal v t ≡ 0 → frequencyRefusal (word (t .a)) p ≡ 0
   unfolding entryRefusal
   taken z =
-      let s = setterOf (t .kind) in
+      let s = setterIn v (t .kind) in
       let w = then-zero (kindRefusal s) (wordsRefusal (used s) t then settingRefusal s (t .a)) z .1 in
       sym (by-frequency (t .a) f) ∙ then-zero (wordsRefusal (used s) t) (settingRefusal s (t .a)) w .1
 

@@ -7,7 +7,8 @@ use Rattle.filter_core.specs.Refusal.{frequencyRefusal}
 use Rattle.filter_core.specs.declared.FrequencyApproximation.{FrequencyApproximation}
 use Rattle.words.specs.Word.{otherNan}
 use Rattle.filter_core.specs.Rows.{_then_}
-use Rattle.sheets.specs.Kind.{setterOf, kindRefusal}
+use Rattle.sheets.specs.Kind.{setterIn, kindRefusal}
+use Rattle.sheets.specs.declared.edition.Edition.{Edition}
 use Rattle.sheets.specs.declared.entry.Entry.{Entry}
 use Rattle.sheets.specs.declared.setter.Setter.{Setter}
 use Rattle.sheets.specs.declared.setter.Setter.the-variants.{DcBlocker, OnePole, SvfFrequency, SvfCoefficients, NaiveSvf, ModifiedSvf, CrossoverSvf, Unknown}
@@ -54,5 +55,6 @@ settingRefusal Unknown a = 0
 abbrev refusalBy : Setter → Entry → ℕ
 refusalBy s t = kindRefusal s then wordsRefusal (used s) t then settingRefusal s (t .a)
 
-unfoldable pub entryRefusal : Entry → ℕ
-entryRefusal t = refusalBy (setterOf (t .kind)) t
+-- an entry of a sheet of the edition v
+unfoldable pub entryRefusal : Edition → Entry → ℕ
+entryRefusal v t = refusalBy (setterIn v (t .kind)) t

@@ -1,4 +1,4 @@
--- The refusal table of document 01 for a sheet, row by row: the case of each number as a statement about the bytes.
+-- The refusal table of document 01 for a sheet, with 02 a's, row by row: the case of each number as a statement about the bytes.
 -- The rows are said of the kind and the approximation that a kind byte holds, and not by the setter that the check goes by.
 use Prim.Native.Nat.{ℕ, _%_, _/_, _≤_, _<_}
 use mathlib.Core.Path.{_≡_}
@@ -10,15 +10,22 @@ use lib.ListN.{length, getD}
 use Rattle.filter_core.specs.Arithmetic.{word}
 use Rattle.filter_core.specs.Rows.{First, Only, FrequencyCase}
 use Rattle.filter_core.specs.declared.FrequencyApproximation.the-variants.{Exact}
-use Rattle.sheets.specs.Sheet.{entriesOf, Sized, entryIn, wordAt, checkOf, checkEntryOf, lookupOf}
+use Rattle.sheets.specs.Sheet.{entriesOf, editionIn, Sized, entryIn, wordAt, checkOf, checkEntryOf, lookupOf}
+use Rattle.sheets.specs.declared.edition.Edition.{Edition}
+use Rattle.sheets.specs.declared.edition.Edition.the-variants.{One, Two}
 use Rattle.sheets.specs.declared.entry.Entry.{Entry}
 
--- `kind`: not 1 to 7, or an approximation that it does not take: 2, 3 and 5 take 0 to 3, the others 0
-pub data KindWrong (kind approximation : ℕ) : Type 0 where
-  no-kind : kind ≡ 0 → KindWrong kind approximation
-  past-kinds : 7 < kind → KindWrong kind approximation
-  past-approximations : 3 < approximation → KindWrong kind approximation
-  not-exact : (kind ≡ 2 → ⊥) → (kind ≡ 3 → ⊥) → (kind ≡ 5 → ⊥) → 0 < approximation → KindWrong kind approximation
+-- the last approximation of an edition
+abbrev pub lastApproximation : Edition → ℕ
+lastApproximation One = 3
+lastApproximation Two = 4
+
+-- `kind`: not 1 to 7, or an approximation that it does not take: 2, 3 and 5 take 0 to the last, the others 0
+pub data KindWrong (v : Edition) (kind approximation : ℕ) : Type 0 where
+  no-kind : kind ≡ 0 → KindWrong v kind approximation
+  past-kinds : 7 < kind → KindWrong v kind approximation
+  past-approximations : lastApproximation v < approximation → KindWrong v kind approximation
+  not-exact : (kind ≡ 2 → ⊥) → (kind ≡ 3 → ⊥) → (kind ≡ 5 → ⊥) → 0 < approximation → KindWrong v kind approximation
 
 -- how many of the words a, b, c the kinds 1 to 7 use
 abbrev pub wordsUsed : ℕ → ℕ
@@ -41,24 +48,28 @@ pub record FrequencyWrong (kind approximation a : ℕ) : Type 0 where
   pub refused : FrequencyCase (word a) Exact 11
 
 -- kind byte = kind + 16 * approximation
-pub data EntryCase (t : Entry) : ℕ → Type 0 where
-  wrong-kind : KindWrong (t .kind % 16) (t .kind / 16) → EntryCase t 3
-  wrong-words : WordsWrong (wordsUsed (t .kind % 16)) t → EntryCase t 4
-  wrong-frequency : FrequencyWrong (t .kind % 16) (t .kind / 16) (t .a) → EntryCase t 11
+pub data EntryCase (v : Edition) (t : Entry) : ℕ → Type 0 where
+  wrong-kind : KindWrong v (t .kind % 16) (t .kind / 16) → EntryCase v t 3
+  wrong-words : WordsWrong (wordsUsed (t .kind % 16)) t → EntryCase v t 4
+  wrong-frequency : FrequencyWrong (t .kind % 16) (t .kind / 16) (t .a) → EntryCase v t 11
 
--- the number of an entry, 0 where nothing is wrong
-abbrev pub EntryRow : Entry → ℕ → Type 0
-EntryRow t r = First (EntryCase t) (3 ∷ 4 ∷ 11 ∷ []) r
+-- the number of the entry t in the edition v, 0 where nothing is wrong
+abbrev pub EntryRow : Edition → Entry → ℕ → Type 0
+EntryRow v t r = First (EntryCase v t) (3 ∷ 4 ∷ 11 ∷ []) r
+
+-- the number of a sheet's entry e
+abbrev pub RowAt : List ℕ → ℕ → ℕ → Type 0
+RowAt s e r = EntryRow (editionIn s) (entryIn s e) r
 
 pub record Sheet (s : List ℕ) : Type 0 where
   pub size : Sized s
-  pub entries : (e : ℕ) → e < entriesOf s → EntryRow (entryIn s e) 0
+  pub entries : (e : ℕ) → e < entriesOf s → RowAt s e 0
 
 -- the number of a sheet: `size`, then that of the first entry that has one
 pub data SheetRow (s : List ℕ) : ℕ → Type 0 where
   is-sheet : Sheet s → SheetRow s 0
   wrong-size : (Sized s → ⊥) → SheetRow s 2
-  wrong-entry : {r : ℕ} (e : ℕ) → Sized s → e < entriesOf s → ((i : ℕ) → i < e → EntryRow (entryIn s i) 0) → EntryRow (entryIn s e) r → (r ≡ 0 → ⊥)
+  wrong-entry : {r : ℕ} (e : ℕ) → Sized s → e < entriesOf s → ((i : ℕ) → i < e → RowAt s i 0) → RowAt s e r → (r ≡ 0 → ⊥)
       → SheetRow s r
 
 -- the number of looking up the entry e: that of the sheet, then `entry`

@@ -1,15 +1,18 @@
-// The check of a sheet: its size, then entry by entry, each entry's kind, words and frequency, in that order.
+// The check of a sheet: its edition and its size, then entry by entry, each entry's kind, words and frequency, in that order.
 
 ghost use mathlib.Core.Path.{_≡_};
 ghost use Prim.Native.Nat.{_+_, _*_, _<_};
 ghost use lib.ListN.{length};
 ghost use Rattle.sheets.specs.Kind.{kindRefusal};
 ghost use Rattle.sheets.specs.Refusal.{firstRefusal, used, wordRefusal, wordsRefusal, wordFrequencyRefusal, settingRefusal, entryRefusal};
-ghost use Rattle.sheets.specs.Sheet.{entriesOf, settingAt, Sized, sizeRefusal, refusalAt, checkOf, entryNumberRefusal, checkEntryOf, lookupOf};
+ghost use Rattle.sheets.specs.Sheet.{entriesOf, editionIn, settingBehind, Fits, sizeRefusal, refusalAt, checkAs, entryNumberRefusal, partFor, checkOf, checkEntryOf, lookupOf};
+use crate::edition::Edition;
+use crate::edition::edition_of;
+use crate::edition::edition_refusal;
 use crate::entry::Entry;
 use crate::entry::entry_of;
 use crate::setter::Setter;
-use crate::setter::setter_of;
+use crate::setter::setter_in;
 use filter_core::FrequencyApproximation;
 
 fn kind_refusal(setter: Setter) -> u8
@@ -82,28 +85,17 @@ fn words_refusal(used: u8, entry: Entry) -> u8
     filter_core::then(first, filter_core::then(second, third))
 }
 
-fn entry_refusal(entry: Entry) -> u8
-    ensures { λ r. ⌜ r ≡ entryRefusal entry ⌝ }
+fn entry_refusal(edition: Edition, entry: Entry) -> u8
+    ensures { λ r. ⌜ r ≡ entryRefusal edition entry ⌝ }
 {
-    let setter = setter_of(entry.kind);
+    let setter = setter_in(edition, entry.kind);
     let kind = kind_refusal(setter);
     let words = words_refusal(words_used(setter), entry);
     let setting = setting_refusal(setter, entry.a);
     filter_core::then(kind, filter_core::then(words, setting))
 }
 
-fn wide(b: u8) -> usize
-    ensures { λ r. ⌜ r ≡ b ⌝ }
-{
-    b as usize
-}
-
-// How many entries the first two bytes announce; bytes that are not there count as 0.
-pub fn entries(sheet: &[u8]) -> usize
-    ensures { λ r. ⌜ r ≡ entriesOf (now (sheet .entry)) ⌝ }
-{
-    wide(words::byte_at(sheet, 0, 0)) + 256 * wide(words::byte_at(sheet, 0, 1))
-}
+// ---- a check of n entries by an edition, as every reader makes it
 
 fn size_refusal(length: usize, n: usize) -> u8
     ensures { λ r. ⌜ r ≡ sizeRefusal length n ⌝ }
@@ -120,28 +112,31 @@ fn size_refusal(length: usize, n: usize) -> u8
     if length == 2 + 13 * n { 0 } else { 2 }
 }
 
-fn setting_at(sheet: &[u8], n: usize, e: usize) -> &[u8]
-    requires { ⌜ Sized (now sheet) × (n ≡ entriesOf (now sheet)) × (e < n) ⌝ }
-    ensures { λ r. ⌜ now r ≡ settingAt (now (sheet .entry)) e ⌝ }
+fn setting_behind(n: usize, sheet: &[u8], e: usize) -> &[u8]
+    requires { ⌜ Fits n (now sheet) × (e < n) ⌝ }
+    ensures { λ r. ⌜ now r ≡ settingBehind n (now (sheet .entry)) e ⌝ }
 {
     let at = 2 + n + 12 * e;
     &sheet[at..at + 12]
 }
 
-fn refusal_at(sheet: &[u8], n: usize, e: usize) -> u8
-    requires { ⌜ Sized (now sheet) × (n ≡ entriesOf (now sheet)) × (e < n) ⌝ }
-    ensures { λ r. ⌜ r ≡ refusalAt (now (sheet .entry)) e ⌝ }
+fn refusal_at(edition: Edition, n: usize, sheet: &[u8], e: usize) -> u8
+    requires { ⌜ Fits n (now sheet) × (e < n) ⌝ }
+    ensures { λ r. ⌜ r ≡ refusalAt edition n (now (sheet .entry)) e ⌝ }
 {
-    entry_refusal(entry_of(words::byte_at(sheet, 2, e), setting_at(sheet, n, e)))
+    entry_refusal(
+        edition,
+        entry_of(words::byte_at(sheet, 2, e), setting_behind(n, sheet, e)),
+    )
 }
 
-fn entries_refusal(sheet: &[u8], n: usize) -> u8
-    requires { ⌜ Sized (now sheet) × (n ≡ entriesOf (now sheet)) ⌝ }
-    ensures { λ r. ⌜ r ≡ firstRefusal n (refusalAt (now (sheet .entry))) ⌝ }
+fn entries_refusal(edition: Edition, n: usize, sheet: &[u8]) -> u8
+    requires { ⌜ Fits n (now sheet) ⌝ }
+    ensures { λ r. ⌜ r ≡ firstRefusal n (refusalAt edition n (now (sheet .entry))) ⌝ }
 {
     let mut e = 0;
     while e < n {
-        let number = refusal_at(sheet, n, e);
+        let number = refusal_at(edition, n, sheet, e);
         if number != 0 {
             return number;
         }
@@ -150,22 +145,61 @@ fn entries_refusal(sheet: &[u8], n: usize) -> u8
     0
 }
 
-// The number that opening the sheet gives, 0 if it is a sheet.
-pub fn check(sheet: &[u8]) -> u8
-    ensures { λ r. ⌜ r ≡ checkOf (now (sheet .entry)) ⌝ }
+pub(crate) fn check_as(edition: Edition, n: usize, sheet: &[u8]) -> u8
+    ensures { λ r. ⌜ r ≡ checkAs edition n (now (sheet .entry)) ⌝ }
 {
-    let n = entries(sheet);
     let number = size_refusal(sheet.len(), n);
     if number != 0 {
         return number;
     }
-    entries_refusal(sheet, n)
+    entries_refusal(edition, n, sheet)
 }
 
-fn number_refusal(n: usize, e: usize) -> u8
+pub(crate) fn number_refusal(n: usize, e: usize) -> u8
     ensures { λ r. ⌜ r ≡ entryNumberRefusal n e ⌝ }
 {
     if e < n { 0 } else { 5 }
+}
+
+pub(crate) fn part_for(number: u8, n: usize, sheet: &[u8], e: usize) -> &[u8]
+    requires { ⌜ (number ≡ 0 → Fits n (now sheet) × (e < n)) ⌝ }
+    ensures { λ r. ⌜ now r ≡ partFor number n (now (sheet .entry)) e ⌝ }
+{
+    if number != 0 {
+        return &sheet[0..0];
+    }
+    setting_behind(n, sheet, e)
+}
+
+// ---- the check of a sheet
+
+pub(crate) fn wide(b: u8) -> usize
+    ensures { λ r. ⌜ r ≡ b ⌝ }
+{
+    b as usize
+}
+
+// How many entries the first byte announces; a byte that is not there counts as 0.
+pub fn entries(sheet: &[u8]) -> usize
+    ensures { λ r. ⌜ r ≡ entriesOf (now (sheet .entry)) ⌝ }
+{
+    wide(words::byte_at(sheet, 0, 0))
+}
+
+// The edition that the second byte names.
+pub fn edition_in(sheet: &[u8]) -> Edition
+    ensures { λ r. ⌜ r ≡ editionIn (now (sheet .entry)) ⌝ }
+{
+    edition_of(words::byte_at(sheet, 0, 1))
+}
+
+// The number that opening the sheet gives, 0 if it is a sheet.
+pub fn check(sheet: &[u8]) -> u8
+    ensures { λ r. ⌜ r ≡ checkOf (now (sheet .entry)) ⌝ }
+{
+    let edition = edition_refusal(words::byte_at(sheet, 0, 1));
+    let rest = check_as(edition_in(sheet), entries(sheet), sheet);
+    filter_core::then(edition, rest)
 }
 
 // The number that looking up entry e gives: that of the sheet, then that of e.
@@ -179,8 +213,5 @@ pub fn check_entry(sheet: &[u8], e: usize) -> u8
 pub fn lookup(sheet: &[u8], e: usize) -> &[u8]
     ensures { λ r. ⌜ now r ≡ lookupOf (now (sheet .entry)) e ⌝ }
 {
-    if check_entry(sheet, e) != 0 {
-        return &sheet[0..0];
-    }
-    setting_at(sheet, entries(sheet), e)
+    part_for(check_entry(sheet, e), entries(sheet), sheet, e)
 }

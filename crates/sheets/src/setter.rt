@@ -1,7 +1,8 @@
 // Which setter an entry's kind byte names, and with which approximation.
 
 ghost use mathlib.Core.Path.{_≡_};
-ghost use Rattle.sheets.specs.Kind.{setterOf};
+ghost use Rattle.sheets.specs.Kind.{setterIn, setterOf};
+use crate::edition::Edition;
 use filter_core::FrequencyApproximation;
 
 pub enum Setter {
@@ -36,6 +37,23 @@ pub fn setter_of(kind: u8) -> Setter
         50 => Setter::OnePole(FrequencyApproximation::Dirty),
         51 => Setter::SvfFrequency(FrequencyApproximation::Dirty),
         53 => Setter::NaiveSvf(FrequencyApproximation::Dirty),
-        0 | 8..=17 | 20 | 22..=33 | 36 | 38..=49 | 52 | 54..=255 => Setter::Unknown,
+        66 => Setter::OnePole(FrequencyApproximation::Series),
+        67 => Setter::SvfFrequency(FrequencyApproximation::Series),
+        69 => Setter::NaiveSvf(FrequencyApproximation::Series),
+        0 | 8..=17 | 20 | 22..=33 | 36 | 38..=49 | 52 | 54..=65 | 68 | 70..=255 => Setter::Unknown,
+    }
+}
+
+// The same in a sheet of an edition: 1 has the approximations 0 to 3 only.
+pub fn setter_in(edition: Edition, kind: u8) -> Setter
+    ensures { λ r. ⌜ r ≡ setterIn edition kind ⌝ }
+{
+    match edition {
+        Edition::One => if kind < 64 {
+            setter_of(kind)
+        } else {
+            Setter::Unknown
+        },
+        Edition::Two => setter_of(kind),
     }
 }

@@ -22,4 +22,5 @@ library-of-spec =
     (λ c. search readings)
     (λ c. search readings)
     (λ c κs. search readings)
+    (λ c κs. search readings)
     returns)

@@ -7,10 +7,10 @@ use Rattle.sheets.proofs.refusal.entries_refusal.Statement.{statement}
 use Rattle.sheets.proofs.refusal.entries_refusal.Tie as tie
 
 abbrev Inv-loop : tie.InvT-loop
-Inv-loop sheet n e₀ e = (e ≤ n) × (firstRefusal e (refusalAt sheet) ≡ 0)
+Inv-loop v n sheet e₀ e = (e ≤ n) × (firstRefusal e (refusalAt v n sheet) ≡ 0)
 
 abbrev μ-loop : tie.MeasureT-loop
-μ-loop sheet n e₀ e = n - e
+μ-loop v n sheet e₀ e = n - e
 
 pub entries-refusal-spec : {M : Type 1} → statement M
 entries-refusal-spec =

@@ -1,4 +1,4 @@
-use Rattle.sheets.proofs.Checks.{lookups}
+use Rattle.sheets.proofs.Checks.{lookups, found}
 use Rattle.sheets.proofs.refusal.lookup.Statement.{statement}
 use Rattle.sheets.proofs.refusal.lookup.Tie as tie
 
@@ -7,10 +7,6 @@ lookup-spec =
     tie.close
     (tie.spec
     (λ c κs. search lookups)
-    (λ c. search lookups)
-    (λ c. search lookups)
-    (λ c. search lookups)
-    (λ c. search lookups)
     (λ c κs. search lookups)
-    (λ c κs. search lookups)
-    (λ c. search lookups))
+    (λ c κs z. found _ _ (c .before .check-entry .ensures) (c .entries .ensures) z)
+    (λ c. cc))

@@ -24,13 +24,19 @@ arms =
     ∷ (50 ∷ [])
     ∷ (51 ∷ [])
     ∷ (53 ∷ [])
-    ∷ (0 ∷ 20 ∷ 36 ∷ 52 ∷ [])
+    ∷ (66 ∷ [])
+    ∷ (67 ∷ [])
+    ∷ (69 ∷ [])
+    ∷ (0 ∷ 20 ∷ 36 ∷ 52 ∷ 68 ∷ [])
     ∷ []
 
 pub setter-of-spec : {M : Type 1} → statement M
 setter-of-spec =
     tie.close
     (tie.spec
+    (λ c. search kinds)
+    (λ c. search kinds)
+    (λ c. search kinds)
     (λ c. search kinds)
     (λ c. search kinds)
     (λ c. search kinds)

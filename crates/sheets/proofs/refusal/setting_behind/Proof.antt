@@ -1,9 +1,9 @@
 use Rattle.sheets.proofs.Checks.{lookups}
-use Rattle.sheets.proofs.refusal.setting_at.Statement.{statement}
-use Rattle.sheets.proofs.refusal.setting_at.Tie as tie
+use Rattle.sheets.proofs.refusal.setting_behind.Statement.{statement}
+use Rattle.sheets.proofs.refusal.setting_behind.Tie as tie
 
-pub setting-at-spec : {M : Type 1} → statement M
-setting-at-spec =
+pub setting-behind-spec : {M : Type 1} → statement M
+setting-behind-spec =
     tie.close
     (tie.spec
     (λ c. search lookups)

@@ -1,6 +1,6 @@
 use borrow.Author.Needs.{needs}
-use Rattle.sheets.proofs.refusal.entries.Statement.{statement}
-use Rattle.sheets.proofs.refusal.entries.Tie as tie
+use Rattle.sheets.proofs.edition_one.entries.Statement.{statement}
+use Rattle.sheets.proofs.edition_one.entries.Tie as tie
 
 pub entries-spec : {M : Type 1} → statement M
 entries-spec =
