@@ -1,5 +1,6 @@
 
-// The series of documents 01 and 02 c, which stand for the two calls that filter.rs has no body for.
+// The series of documents 01 and 02 c, which stand for the two calls that filter.rs has no body for, and 02 a's approximation 4, for which
+// it has none of its own.
 mod series {
     const M_PI_F: f32 = f32::from_bits(0x40490FDB);
 
@@ -40,6 +41,12 @@ mod series {
         }
     }
 
+    // Document 02 a: the same series at every frequency.
+    #[inline]
+    pub fn whole(f: f32) -> f32 {
+        t(M_PI_F * f)
+    }
+
     #[inline]
     pub fn tangent(f: f32) -> f32 {
         odd(tangent_from_zero, f)
@@ -48,6 +55,32 @@ mod series {
     #[inline]
     pub fn sine(f: f32) -> f32 {
         odd(sine_from_zero, f)
+    }
+}
+
+/// The tangent in approximation 4.
+pub fn whole_series(f: f32) -> f32 {
+    series::whole(f)
+}
+
+// The setters in approximation 4, by the source's own from the tangent on.
+impl OnePole {
+    pub fn set_f_by_series(&mut self, f: f32) {
+        self.g = whole_series(f);
+        self.gi = 1.0 / (1.0 + self.g);
+    }
+}
+
+impl Svf {
+    pub fn set_f_q_by_series(&mut self, f: f32, resonance: f32) {
+        self.set_g_q(whole_series(f), resonance);
+    }
+}
+
+impl NaiveSvf {
+    // Clipped as in all but Exact.
+    pub fn set_f_q_by_series(&mut self, f: f32, resonance: f32) {
+        self.set_f_q(f, resonance, FrequencyApproximation::Dirty);
     }
 }
 

@@ -21,6 +21,8 @@ lines =
     ∷ (ascii "check", BytesNumber)
     ∷ (ascii "lookup", BytesNumber)
     ∷ (ascii "head", Head)
+    ∷ (ascii "check1", BytesNumber)
+    ∷ (ascii "lookup1", BytesNumber)
     ∷ []
 
 abbrev pub keywords : List (List ℕ)

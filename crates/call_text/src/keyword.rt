@@ -28,6 +28,11 @@ pub const LOOKUP: usize = 10;
 
 pub const HEAD: usize = 11;
 
+// The reader of edition 1 only.
+pub const CHECK1: usize = 12;
+
+pub const LOOKUP1: usize = 13;
+
 // What stands behind a keyword.
 pub(crate) enum Shape {
     Head,
@@ -45,7 +50,7 @@ pub fn number_of(s: &[u8]) -> usize
 {
     form_text::name_index(
         s,
-        b"open load run two rest mark back drop write check lookup head",
+        b"open load run two rest mark back drop write check lookup head check1 lookup1",
     )
 }
 
@@ -65,6 +70,8 @@ pub(crate) fn shape_of(keyword: usize) -> Shape
         CHECK => Shape::BytesNumber,
         LOOKUP => Shape::BytesNumber,
         HEAD => Shape::Head,
+        CHECK1 => Shape::BytesNumber,
+        LOOKUP1 => Shape::BytesNumber,
         _ => Shape::NoShape,
     }
 }

@@ -14,7 +14,9 @@ use crate::text::put_written;
 use call_text::Call;
 use call_text::keyword::BACK;
 use call_text::keyword::CHECK;
+use call_text::keyword::CHECK1;
 use call_text::keyword::LOAD;
+use call_text::keyword::LOOKUP;
 use call_text::keyword::MARK;
 use call_text::keyword::OPEN;
 use call_text::keyword::REST;
@@ -131,7 +133,9 @@ fn of_bytes(call: Call, now: Answered, line: &[u8], out: &mut [u8]) -> Answered 
 fn with_sheet(keyword: usize, sheet: &[u8], entry: usize, out: &mut [u8], at: usize) -> usize {
     match keyword {
         CHECK => put_number(sheets::check_entry(sheet, entry), out, at),
-        _ => put_part(sheets::lookup(sheet, entry), out, at),
+        LOOKUP => put_part(sheets::lookup(sheet, entry), out, at),
+        CHECK1 => put_number(sheets::check_entry_edition_one(sheet, entry), out, at),
+        _ => put_part(sheets::lookup_edition_one(sheet, entry), out, at),
     }
 }
 

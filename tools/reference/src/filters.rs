@@ -89,11 +89,14 @@ pub fn has_form(of: &str, outputs: usize, form: &Form) -> bool {
 /// The entry's filter: new, then set.
 pub fn loaded(kind: u8, approximation: u8, words: [u32; 3]) -> Filter {
     let [a, b, c] = words.map(f32::from_bits);
+    // None is 02 a's approximation 4, which the source does not have.
     let approximation = match approximation {
-        0 => FrequencyApproximation::Exact,
-        1 => FrequencyApproximation::Accurate,
-        2 => FrequencyApproximation::Fast,
-        _ => FrequencyApproximation::Dirty,
+        0 => Some(FrequencyApproximation::Exact),
+        1 => Some(FrequencyApproximation::Accurate),
+        2 => Some(FrequencyApproximation::Fast),
+        3 => Some(FrequencyApproximation::Dirty),
+        4 => None,
+        _ => unreachable!("approximation {approximation}"),
     };
     match kind {
         1 => {
@@ -103,12 +106,18 @@ pub fn loaded(kind: u8, approximation: u8, words: [u32; 3]) -> Filter {
         }
         2 => {
             let mut f = OnePole::new();
-            f.set_f(a, approximation);
+            match approximation {
+                Some(p) => f.set_f(a, p),
+                None => f.set_f_by_series(a),
+            }
             Filter::OnePole(f)
         }
         3 => {
             let mut f = Svf::new();
-            f.set_f_q(a, b, approximation);
+            match approximation {
+                Some(p) => f.set_f_q(a, b, p),
+                None => f.set_f_q_by_series(a, b),
+            }
             Filter::Svf(f)
         }
         4 => {
@@ -118,7 +127,10 @@ pub fn loaded(kind: u8, approximation: u8, words: [u32; 3]) -> Filter {
         }
         5 => {
             let mut f = NaiveSvf::new();
-            f.set_f_q(a, b, approximation);
+            match approximation {
+                Some(p) => f.set_f_q(a, b, p),
+                None => f.set_f_q_by_series(a, b),
+            }
             Filter::Naive(f)
         }
         6 => {

@@ -11,10 +11,15 @@ pub fn hex(bytes: &[u8]) -> String {
     bytes.iter().map(|b| format!("{b:02x}")).collect()
 }
 
-/// The kind bytes that name a setter.
+/// The kind bytes that name a setter, and those that do so in edition 2 only.
 pub const KIND_BYTES: [u8; 16] = [
     0x01, 0x02, 0x12, 0x22, 0x32, 0x03, 0x13, 0x23, 0x33, 0x04, 0x05, 0x15, 0x25, 0x35, 0x06, 0x07,
 ];
+pub const NEW_KIND_BYTES: [u8; 3] = [0x42, 0x43, 0x45];
+
+/// The second byte of each edition.
+const EDITION_1: u8 = 0;
+const EDITION_2: u8 = 2;
 
 const SPECIAL: [u32; 20] = [
     0x0000_0000, // 0
@@ -236,10 +241,11 @@ impl Writer {
         }
     }
 
-    // Each kind as often as another, then each of its approximations.
-    fn kind_byte(&mut self) -> u8 {
+    // Each kind as often as another, then each of the approximations that the edition has for it.
+    fn kind_byte(&mut self, edition: u8) -> u8 {
+        let approximations = if edition == EDITION_2 { 5 } else { 4 };
         match self.numbers.pick(&[1, 2, 3, 4, 5, 6, 7]) {
-            kind @ (2 | 3 | 5) => kind + 16 * self.numbers.below(4) as u8,
+            kind @ (2 | 3 | 5) => kind + 16 * self.numbers.below(approximations) as u8,
             kind => kind,
         }
     }
@@ -252,8 +258,9 @@ impl Writer {
             2 => 2 + self.numbers.below(5),
             _ => 64 - self.numbers.below(2),
         };
-        let kinds: Vec<u8> = (0..n).map(|_| self.kind_byte()).collect();
-        let mut sheet = vec![n as u8, 0];
+        let edition = self.numbers.pick(&[EDITION_1, EDITION_2]);
+        let kinds: Vec<u8> = (0..n).map(|_| self.kind_byte(edition)).collect();
+        let mut sheet = vec![n as u8, edition];
         sheet.extend(&kinds);
         for kind in kinds {
             for w in self.entry(kind) {
@@ -273,8 +280,15 @@ impl Writer {
             0 => sheet.truncate(self.numbers.below(sheet.len() as u64) as usize),
             1 => sheet.push(self.numbers.next() as u8),
             2 => sheet[0] = self.numbers.pick(&[0, 1, 63, 64, 65, 255]),
-            3 => sheet[1] = 1 + self.numbers.below(255) as u8,
-            4 | 5 => sheet[2 + entry] = self.numbers.next() as u8,
+            3 => {
+                sheet[1] = match self.numbers.below(3) {
+                    0 => EDITION_1 + EDITION_2 - sheet[1],
+                    1 => self.numbers.pick(&[1, 3, 4, 255]),
+                    _ => self.numbers.next() as u8,
+                }
+            }
+            4 => sheet[2 + entry] = self.numbers.next() as u8,
+            5 => sheet[2 + entry] = 0x40 + self.numbers.below(9) as u8,
             6 => {
                 let nan = self
                     .numbers
@@ -424,7 +438,7 @@ impl Writer {
     }
 
     fn bad_line(&mut self) {
-        const BAD: [&str; 40] = [
+        const BAD: [&str; 42] = [
             "x",
             " ",
             "open",
@@ -464,6 +478,8 @@ impl Writer {
             "back 0",
             "drop 0 0 0",
             "check - ",
+            "check1 -",
+            "lookup2 - 0",
             "head 12345678901234567890123",
         ];
         match self.numbers.weighted(&[90, 8, 1, 1]) {
@@ -550,7 +566,7 @@ impl Writer {
             }
             10 | 11 => {
                 let sheet = self.any_sheet();
-                let name = self.numbers.pick(&["check", "lookup"]);
+                let name = self.numbers.pick(&["check", "lookup", "check1", "lookup1"]);
                 let line = format!("{name} {} {}", hex(&sheet), self.entry_number(&sheet));
                 self.line(&line);
             }
@@ -629,12 +645,12 @@ pub fn short(length: u32) -> impl Iterator<Item = Vec<u8>> {
     })
 }
 
-/// Every change of one byte of a valid sheet of each kind byte, of one with all seven kinds, and of those in Exact at -0.497, -0.25 and -0.0:
-/// every value at every place, every truncation, and every byte behind. Each goes through check, lookup and open, and the entry is loaded
-/// and shown.
+/// Every change of one byte of a valid sheet of each kind byte, of one with all seven kinds, of those in Exact at -0.497, -0.25 and -0.0, and
+/// of sheets of edition 2: every value at every place, every truncation, and every byte behind. Each goes through check and lookup by both
+/// readers and through open, and the entry is loaded and shown.
 pub fn sheet_changes() -> impl Iterator<Item = Vec<u8>> {
-    let valid = |kinds: &[u8], f: u32| {
-        let mut sheet = vec![kinds.len() as u8, 0];
+    let valid = |edition: u8, kinds: &[u8], f: u32| {
+        let mut sheet = vec![kinds.len() as u8, edition];
         sheet.extend(kinds);
         for kind in kinds {
             let words: [u32; 3] = match kind % 16 {
@@ -647,11 +663,23 @@ pub fn sheet_changes() -> impl Iterator<Item = Vec<u8>> {
         sheet
     };
     let fifth = 0x3E4C_CCCD;
-    let mut sheets: Vec<Vec<u8>> = KIND_BYTES.iter().map(|k| valid(&[*k], fifth)).collect();
-    sheets.push(valid(&[1, 2, 3, 4, 5, 6, 7], fifth));
+    let mut sheets: Vec<Vec<u8>> = KIND_BYTES
+        .iter()
+        .map(|k| valid(EDITION_1, &[*k], fifth))
+        .collect();
+    sheets.push(valid(EDITION_1, &[1, 2, 3, 4, 5, 6, 7], fifth));
     for kind in [2, 3, 5] {
-        sheets.extend([0xBEFE_76C9, 0xBE80_0000, 0x8000_0000].map(|f| valid(&[kind], f)));
+        sheets
+            .extend([0xBEFE_76C9, 0xBE80_0000, 0x8000_0000].map(|f| valid(EDITION_1, &[kind], f)));
     }
+    for kind in [1, 2].into_iter().chain(NEW_KIND_BYTES) {
+        sheets.push(valid(EDITION_2, &[kind], fifth));
+    }
+    sheets.push(valid(
+        EDITION_2,
+        &[1, 2, 0x42, 3, 0x43, 4, 5, 0x45, 6, 7],
+        fifth,
+    ));
     sheets.into_iter().flat_map(|sheet| {
         let entries = sheet[0];
         let mut changed = Vec::new();
@@ -678,7 +706,7 @@ pub fn sheet_changes() -> impl Iterator<Item = Vec<u8>> {
                     let s = hex(s);
                     let e = entries - 1;
                     text.push_str(&format!(
-                        "check {s} {e}\nlookup {s} {e}\nopen {s}\nload 0 {e}\nhead 0\n"
+                        "check {s} {e}\nlookup {s} {e}\ncheck1 {s} {e}\nlookup1 {s} {e}\nopen {s}\nload 0 {e}\nhead 0\n"
                     ));
                 }
                 text.into_bytes()
@@ -804,6 +832,28 @@ pub fn sample(seed: u64) -> Vec<u8> {
             let mut sheet = vec![1, 0, kind];
             [f, b, 0].iter().for_each(|w| sheet.extend(w.to_le_bytes()));
             text.push_str(&format!("open {}\nload 0 0\nhead 0\n", hex(&sheet)));
+        }
+    }
+    text.push_str("\n# Edition 2, and the reader that knows edition 1 only.\n");
+    for kind in [0x42u8, 0x43, 0x45, 0x41, 0x44, 0x52, 0x12] {
+        for (edition, f) in [
+            (2u8, 0x3E4C_CCCDu32),
+            (2, 0x3F00_0000),
+            (2, 0xBF80_0000),
+            (0, 0x3E4C_CCCD),
+            (1, 0x3E4C_CCCD),
+            (3, 0x3E4C_CCCD),
+        ] {
+            let b: u32 = if kind % 16 < 3 { 0 } else { 0x3F00_0000 };
+            let mut sheet = vec![1, edition, kind];
+            [f, b, 0].iter().for_each(|w| sheet.extend(w.to_le_bytes()));
+            let sheet = hex(&sheet);
+            text.push_str(&format!(
+                "open {sheet}\nload 0 0\nhead 0\nwrite {}\n",
+                "ee".repeat(15)
+            ));
+            text.push_str(&format!("check {sheet} 0\nlookup {sheet} 0\n"));
+            text.push_str(&format!("check1 {sheet} 0\nlookup1 {sheet} 0\n"));
         }
     }
     text.push_str("\n# Bad lines.\n");

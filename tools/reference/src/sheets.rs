@@ -8,8 +8,11 @@ pub fn word(sheet: &[u8], entry: usize, k: usize) -> u32 {
 }
 
 pub fn entries(sheet: &[u8]) -> usize {
-    usize::from(sheet[0]) + 256 * usize::from(sheet[1])
+    usize::from(sheet[0])
 }
+
+// The second byte of each edition, and the last approximation of the kinds that take one.
+const EDITIONS: [(u8, u8); 2] = [(0, 3), (2, 4)];
 
 /// Kind and approximation of an entry.
 pub fn kind(sheet: &[u8], entry: usize) -> (u8, u8) {
@@ -28,12 +31,8 @@ const KINDS: [(u8, usize, bool); 7] = [
     (7, 2, false), // CrossoverSvf::set_f_fq
 ];
 
-/// The number that opening the sheet gives, 0 if it is accepted.
-pub fn check(sheet: &[u8]) -> u8 {
-    if sheet.len() < 2 {
-        return 2;
-    }
-    let n = entries(sheet);
+// The number of a sheet of n entries that has the approximations up to the last.
+fn checked(sheet: &[u8], n: usize, last: u8) -> u8 {
     if !(1..=64).contains(&n) || sheet.len() != 2 + 13 * n {
         return 2;
     }
@@ -42,7 +41,7 @@ pub fn check(sheet: &[u8]) -> u8 {
         let Some(&(_, used, approximates)) = KINDS.iter().find(|row| row.0 == kind) else {
             return 3;
         };
-        if approximation > if approximates { 3 } else { 0 } {
+        if approximation > if approximates { last } else { 0 } {
             return 3;
         }
         for k in 0..3 {
@@ -60,8 +59,31 @@ pub fn check(sheet: &[u8]) -> u8 {
     0
 }
 
-/// The number of a lookup of entry e: that of the sheet, then 5.
-pub fn check_entry(sheet: &[u8], e: u64) -> u8 {
+/// The number that opening the sheet gives, 0 if it is accepted.
+pub fn check(sheet: &[u8]) -> u8 {
+    if sheet.len() < 2 {
+        return 2;
+    }
+    match EDITIONS.iter().find(|row| row.0 == sheet[1]) {
+        Some(&(_, last)) => checked(sheet, entries(sheet), last),
+        None => 2,
+    }
+}
+
+/// The same by a reader that knows edition 1 only, whose n has two bytes.
+pub fn check_edition_1(sheet: &[u8]) -> u8 {
+    if sheet.len() < 2 {
+        return 2;
+    }
+    let n = usize::from(sheet[0]) + 256 * usize::from(sheet[1]);
+    checked(sheet, n, 3)
+}
+
+/// The check of a reader.
+pub type Check = fn(&[u8]) -> u8;
+
+/// The number of a reader's lookup of entry e: that of the sheet, then 5.
+pub fn check_entry(check: Check, sheet: &[u8], e: u64) -> u8 {
     match check(sheet) {
         0 if e >= entries(sheet) as u64 => 5,
         number => number,
@@ -69,8 +91,8 @@ pub fn check_entry(sheet: &[u8], e: u64) -> u8 {
 }
 
 /// The setting bytes of entry e; none where the check declines.
-pub fn lookup(sheet: &[u8], e: u64) -> &[u8] {
-    if check_entry(sheet, e) != 0 {
+pub fn lookup(check: Check, sheet: &[u8], e: u64) -> &[u8] {
+    if check_entry(check, sheet, e) != 0 {
         return &[];
     }
     let at = 2 + entries(sheet) + 12 * e as usize;

@@ -198,11 +198,64 @@ fn run(
     Some(())
 }
 
+// The edition of a sheet that was accepted.
+fn edition(sheet: &[u8]) -> u8 {
+    if sheet[1] == 2 {
+        2
+    } else {
+        1
+    }
+}
+
+fn check(
+    name: &str,
+    by: sheets::Check,
+    sheet: &[u8],
+    entry: &[u8],
+    counts: &mut Counts,
+    to: &mut String,
+) -> Option<()> {
+    let (sheet, entry) = (bytes(sheet)?, number(entry)?);
+    let refusal = sheets::check_entry(by, &sheet, entry);
+    if refusal == 0 {
+        counts.add(&format!("{name} accepted"), 1);
+    } else if sheets::check_entry(sheets::check, &sheet, entry) == 0 {
+        counts.add(&format!("{name} declines edition 2"), 1);
+    }
+    numbered(name, refusal, counts, to);
+    Some(())
+}
+
+fn lookup(
+    name: &str,
+    by: sheets::Check,
+    sheet: &[u8],
+    entry: &[u8],
+    counts: &mut Counts,
+    to: &mut String,
+) -> Option<()> {
+    let (sheet, entry) = (bytes(sheet)?, number(entry)?);
+    let part = sheets::lookup(by, &sheet, entry);
+    counts.add("calls", 1);
+    counts.add(name, 1);
+    if !part.is_empty() {
+        counts.add(&format!("{name} accepted"), 1);
+    }
+    to.push_str(name);
+    to.push(' ');
+    put_bytes(part, to);
+    Some(())
+}
+
 fn call(frame: &mut Frame, line: &[u8], counts: &mut Counts, to: &mut String) -> Option<()> {
     let words: Vec<&[u8]> = line.split(|b| *b == b' ').collect();
     match words[..] {
         [b"open", sheet] => {
-            let number = frame.open(&bytes(sheet)?);
+            let sheet = bytes(sheet)?;
+            let number = frame.open(&sheet);
+            if number == 0 {
+                counts.add(&format!("open of edition {}", edition(&sheet)), 1);
+            }
             numbered("open", number, counts, to);
         }
         [b"load", head, entry] => {
@@ -250,6 +303,7 @@ fn call(frame: &mut Frame, line: &[u8], counts: &mut Counts, to: &mut String) ->
             let mut out = bytes(out)?;
             match frame.write(&mut out) {
                 Ok(length) => {
+                    counts.add(&format!("write of edition {}", edition(&out)), 1);
                     numbered("write", 0, counts, to);
                     to.push_str(&format!(" {length}"));
                 }
@@ -258,17 +312,13 @@ fn call(frame: &mut Frame, line: &[u8], counts: &mut Counts, to: &mut String) ->
             to.push(' ');
             put_bytes(&out, to);
         }
-        [b"check", sheet, entry] => {
-            let refusal = sheets::check_entry(&bytes(sheet)?, number(entry)?);
-            numbered("check", refusal, counts, to);
+        [b"check", sheet, entry] => check("check", sheets::check, sheet, entry, counts, to)?,
+        [b"lookup", sheet, entry] => lookup("lookup", sheets::check, sheet, entry, counts, to)?,
+        [b"check1", sheet, entry] => {
+            check("check1", sheets::check_edition_1, sheet, entry, counts, to)?
         }
-        [b"lookup", sheet, entry] => {
-            let sheet = bytes(sheet)?;
-            let part = sheets::lookup(&sheet, number(entry)?);
-            counts.add("calls", 1);
-            counts.add("lookup", 1);
-            to.push_str("lookup ");
-            put_bytes(part, to);
+        [b"lookup1", sheet, entry] => {
+            lookup("lookup1", sheets::check_edition_1, sheet, entry, counts, to)?
         }
         [b"head", head] => match frame.shown(number(head)?) {
             Some(filters) => {

@@ -43,6 +43,12 @@ const APPROXIMATIONS: [Approximations; 4] = [
 // The number of an unknown mode or approximation.
 const UNKNOWN: u8 = 100;
 
+// Approximation 4 of document 02 a. Neither the source nor the Rust package has it: it is called as C calls it, and compared with the series.
+const SERIES: u32 = 4;
+
+const LAST_MODE: u32 = 3;
+const LAST_APPROXIMATION: u32 = SERIES;
+
 /// How many values were compared, by method, and what is being compared now.
 struct Tally {
     counts: BTreeMap<&'static str, u64>,
@@ -118,13 +124,14 @@ fn number<A>(answer: &Result<A, Refusal>) -> u8 {
     }
 }
 
-// A number that names no mode: a byte, one whose low byte would name a mode, what C makes of a negative int, or any.
-fn unknown(n: &mut Numbers) -> u32 {
+// A number past the last that names a mode or an approximation: a byte, one whose low byte would name one, what C makes of a negative int,
+// or any.
+fn unknown(n: &mut Numbers, last: u32) -> u32 {
     match n.below(4) {
-        0 => 4 + n.below(252) as u32,
-        1 => (1 + n.below(0xFF_FFFF) as u32) << 8 | n.below(4) as u32,
+        0 => last + 1 + n.below(u64::from(255 - last)) as u32,
+        1 => (1 + n.below(0xFF_FFFF) as u32) << 8 | n.below(u64::from(last) + 1) as u32,
         2 => u32::MAX - n.below(256) as u32,
-        _ => (n.next() as u32).max(4),
+        _ => (n.next() as u32).max(last + 1),
     }
 }
 
@@ -228,9 +235,46 @@ fn naive_at(t: &mut Tally, w: [f32; 4], f: f32, resonance: f32, (p, q): Approxim
     setter!(t, NaiveSvf, w, "set_f_q", set_f_q(f, resonance), p, q);
 }
 
-// Every frequency of `oracle::MIRRORED` in every call that takes one.
+fn one_pole_by_series(t: &mut Tally, w: [f32; 3], f: f32) {
+    let (mut a, mut state, mut value) = (oracle::OnePole::from_fields(w), w, 0.0);
+    t.at("OnePole by the series", format!("{w:?} {f:?}"));
+    t.refusal(0, unsafe { ffi::one_pole_tan(f, SERIES, &mut value) });
+    t.words("the value", &[oracle::whole_series(f)], &[value]);
+    t.refusal(0, unsafe { ffi::one_pole_set_f(&mut state, f, SERIES) });
+    a.set_f_by_series(f);
+    t.words("the field", &a.fields(), &state);
+}
+
+fn svf_by_series(t: &mut Tally, w: [f32; 5], f: f32, resonance: f32) {
+    let (mut a, mut state) = (oracle::Svf::from_fields(w), w);
+    t.at("Svf by the series", format!("{w:?} {f:?} {resonance:?}"));
+    t.refusal(0, unsafe {
+        ffi::svf_set_f_q(&mut state, f, resonance, SERIES)
+    });
+    a.set_f_q_by_series(f, resonance);
+    t.words("the field", &a.fields(), &state);
+}
+
+fn naive_by_series(t: &mut Tally, w: [f32; 4], f: f32, resonance: f32) {
+    let (mut a, mut state) = (oracle::NaiveSvf::from_fields(w), w);
+    t.at(
+        "NaiveSvf by the series",
+        format!("{w:?} {f:?} {resonance:?}"),
+    );
+    t.refusal(0, unsafe {
+        ffi::naive_svf_set_f_q(&mut state, f, resonance, SERIES)
+    });
+    a.set_f_q_by_series(f, resonance);
+    t.words("the field", &a.fields(), &state);
+}
+
+// Every frequency of `oracle::MIRRORED`, and each negated, in every call that takes one.
 fn mirrored(n: &mut Numbers, t: &mut Tally) {
-    for f in oracle::MIRRORED.map(f32::from_bits) {
+    let below = oracle::MIRRORED.map(f32::from_bits);
+    for f in below.into_iter().chain(below.map(|f| -f)) {
+        one_pole_by_series(t, n.words(true), f);
+        svf_by_series(t, n.words(true), f, n.any());
+        naive_by_series(t, n.words(true), f, n.any());
         for by in APPROXIMATIONS {
             one_pole_at(t, n.words(true), f, by);
             svf_at(t, n.words(true), f, n.any(), by);
@@ -246,6 +290,7 @@ fn one_pole(n: &mut Numbers, t: &mut Tally, tame: bool) {
     for by in APPROXIMATIONS {
         one_pole_at(t, w, n.setting(), by);
     }
+    one_pole_by_series(t, w, n.setting());
     for (p, q) in MODES {
         let (mut a, mut b) = pair!(OnePole, w);
         t.at("OnePole::process", format!("{w:?} {p:?}"));
@@ -255,16 +300,17 @@ fn one_pole(n: &mut Numbers, t: &mut Tally, tame: bool) {
             t.words("the field", &a.fields(), &b.fields());
         }
     }
-    let (mode, mut state, mut out) = (unknown(n), w, n.any());
+    let (mode, by) = (unknown(n, LAST_MODE), unknown(n, LAST_APPROXIMATION));
+    let (mut state, mut out) = (w, n.any());
     let was = out;
-    t.at("OnePole, unknown numbers", format!("{w:?} {mode}"));
+    t.at("OnePole, unknown numbers", format!("{w:?} {mode} {by}"));
     unsafe {
         t.refusal(
             UNKNOWN,
             ffi::one_pole_process(&mut state, 1.0, mode, &mut out),
         );
-        t.refusal(UNKNOWN, ffi::one_pole_set_f(&mut state, 0.1, mode));
-        t.refusal(UNKNOWN, ffi::one_pole_tan(0.1, mode, &mut out));
+        t.refusal(UNKNOWN, ffi::one_pole_set_f(&mut state, 0.1, by));
+        t.refusal(UNKNOWN, ffi::one_pole_tan(0.1, by, &mut out));
         t.refusal(11, ffi::one_pole_tan(-1.0, 0, &mut out));
     }
     t.stays("the field", &w, &state);
@@ -290,6 +336,7 @@ fn svf(n: &mut Numbers, t: &mut Tally, tame: bool) {
     for by in APPROXIMATIONS {
         svf_at(t, w, n.setting(), n.any(), by);
     }
+    svf_by_series(t, w, n.setting(), n.any());
     // Settings that a user would have, half of the time.
     let w = if tame && n.below(2) == 0 {
         let mut s = oracle::Svf::from_fields(w);
@@ -411,7 +458,8 @@ fn svf(n: &mut Numbers, t: &mut Tally, tame: bool) {
         t.refusal(10, number(&b.process_stride_buffer(&input, &mut y, 0, q)));
         t.stays("the field", &w, &b.fields());
         t.stays("the place", &out, &y);
-        let (mut state, mut z, bad) = (w, out_2.clone(), unknown(n));
+        let (mut state, mut z) = (w, out_2.clone());
+        let (bad, by) = (unknown(n, LAST_MODE), unknown(n, LAST_APPROXIMATION));
         let (l, o) = (input.len(), out.len());
         let (i, yp, zp) = (input.as_ptr(), y.as_mut_ptr(), z.as_mut_ptr());
         let (mut o1, mut o2) = (3.0f32, 4.0f32);
@@ -452,7 +500,7 @@ fn svf(n: &mut Numbers, t: &mut Tally, tame: bool) {
                     bad,
                 ),
             );
-            t.refusal(UNKNOWN, ffi::svf_set_f_q(&mut state, -1.0, 1.0, bad));
+            t.refusal(UNKNOWN, ffi::svf_set_f_q(&mut state, -1.0, 1.0, by));
             t.refusal(11, ffi::svf_set_f_q(&mut state, -1.0, 1.0, 0));
         }
         t.stays("the field", &w, &state);
@@ -472,6 +520,7 @@ fn naive(n: &mut Numbers, t: &mut Tally, tame: bool) {
     for by in APPROXIMATIONS {
         naive_at(t, w, n.setting(), n.any(), by);
     }
+    naive_by_series(t, w, n.setting(), n.any());
     for (k, (p, q)) in MODES.into_iter().enumerate() {
         let (mut a, mut b) = pair!(NaiveSvf, w);
         t.at("NaiveSvf::process", format!("{w:?} {p:?}"));
@@ -542,7 +591,8 @@ fn naive(n: &mut Numbers, t: &mut Tally, tame: bool) {
         t.at("NaiveSvf, refused", format!("{w:?} {p:?}"));
         t.refusal(10, number(&b.process_decimate(&input, &mut y, 0, q)));
         t.stays("the field", &w, &b.fields());
-        let (mut state, mut o1, bad) = (w, 3.0f32, unknown(n));
+        let (mut state, mut o1) = (w, 3.0f32);
+        let (bad, by) = (unknown(n, LAST_MODE), unknown(n, LAST_APPROXIMATION));
         let (l, o, i, yp) = (input.len(), out.len(), input.as_ptr(), y.as_mut_ptr());
         unsafe {
             t.refusal(
@@ -557,7 +607,7 @@ fn naive(n: &mut Numbers, t: &mut Tally, tame: bool) {
                 UNKNOWN,
                 ffi::naive_svf_process_decimate(&mut state, i, l, yp, o, k, bad),
             );
-            t.refusal(UNKNOWN, ffi::naive_svf_set_f_q(&mut state, -1.0, 1.0, bad));
+            t.refusal(UNKNOWN, ffi::naive_svf_set_f_q(&mut state, -1.0, 1.0, by));
             t.refusal(11, ffi::naive_svf_set_f_q(&mut state, -1.0, 1.0, 0));
         }
         t.stays("the field", &w, &state);
@@ -594,7 +644,7 @@ macro_rules! chamberlin {
                 t.words("the place", &x, &y);
                 t.words("the field", &a.fields(), &b.fields());
 
-                let (mut state, mut y, bad) = (w, out.clone(), unknown(n));
+                let (mut state, mut y, bad) = (w, out.clone(), unknown(n, LAST_MODE));
                 t.at(
                     concat!(stringify!($type), ", refused"),
                     format!("{w:?} {bad}"),
@@ -701,7 +751,7 @@ fn random(seed: u64, rounds: u64) {
 // All words in one approximation: the source's answer, or the refusal.
 fn every_word(
     name: &str,
-    approximation: oracle::FrequencyApproximation,
+    refusal: impl Fn(f32) -> u8 + Sync,
     ours: impl Fn(f32) -> Result<f32, Refusal> + Sync,
     theirs: impl Fn(f32) -> f32 + Sync,
 ) -> u64 {
@@ -711,7 +761,7 @@ fn every_word(
         for word in from..to {
             let f = f32::from_bits(word as u32);
             let got = ours(f);
-            let right = if frequency_refusal(f, approximation) != 0 {
+            let right = if refusal(f) != 0 {
                 refused += 1;
                 got == Err(Refusal::Frequency)
             } else {
@@ -743,13 +793,13 @@ fn full() {
     for (p, q) in APPROXIMATIONS {
         total += every_word(
             &format!("OnePole::tan {p:?}"),
-            p,
+            |f| frequency_refusal(f, p),
             |f| proved::OnePole::tan(f, q),
             |f| oracle::OnePole::tan(f, p),
         );
         total += every_word(
             &format!("NaiveSvf::set_f_q {p:?}"),
-            p,
+            |f| frequency_refusal(f, p),
             |f| {
                 let mut s = proved::NaiveSvf::from_fields([0.0; 4]);
                 s.set_f_q(f, 1.0, q)?;
@@ -762,6 +812,34 @@ fn full() {
             },
         );
     }
+    total += every_word(
+        "one_pole_tan by the series",
+        |_| 0,
+        |f| {
+            let mut value = 0.0;
+            match unsafe { ffi::one_pole_tan(f, SERIES, &mut value) } {
+                0 => Ok(value),
+                _ => Err(Refusal::Frequency),
+            }
+        },
+        oracle::whole_series,
+    );
+    total += every_word(
+        "naive_svf_set_f_q by the series",
+        |_| 0,
+        |f| {
+            let mut state = [0.0; 4];
+            match unsafe { ffi::naive_svf_set_f_q(&mut state, f, 1.0, SERIES) } {
+                0 => Ok(state[0]),
+                _ => Err(Refusal::Frequency),
+            }
+        },
+        |f| {
+            let mut s = oracle::NaiveSvf::from_fields([0.0; 4]);
+            s.set_f_q_by_series(f, 1.0);
+            s.fields()[0]
+        },
+    );
     println!(
         "compare: {total} values equal, {:.0} s",
         start.elapsed().as_secs_f64()

@@ -48,16 +48,52 @@ impl Call {
         self.state[..N].copy_from_slice(&words);
     }
 
-    // The source's answer.
-    fn answer(&mut self) {
-        let [p, q, r] = self.numbers;
-        let (mode, mode_2) = (MODES[self.a], MODES[self.b]);
-        let approximation = APPROXIMATIONS[self.a];
-        let refusal = frequency_refusal(p, approximation);
-        if takes_f(self.method) && refusal != 0 {
+    // The source's answer where a frequency comes with an approximation, or the series' where that is 4.
+    fn answer_frequency(&mut self) {
+        let [f, resonance, _] = self.numbers;
+        let source = APPROXIMATIONS.get(self.a).copied();
+        let refusal = source.map_or(0, |p| frequency_refusal(f, p));
+        if refusal != 0 {
             self.refusal = u32::from(refusal);
             return;
         }
+        match (self.method, source) {
+            (23, Some(p)) => self.out_1[0] = OnePole::tan(f, p),
+            (23, None) => self.out_1[0] = oracle::whole_series(f),
+            (24, p) => {
+                let mut s = OnePole::from_fields(self.of());
+                match p {
+                    Some(p) => s.set_f(f, p),
+                    None => s.set_f_by_series(f),
+                }
+                self.keep(s.fields());
+            }
+            (37, p) => {
+                let mut s = Svf::from_fields(self.of());
+                match p {
+                    Some(p) => s.set_f_q(f, resonance, p),
+                    None => s.set_f_q_by_series(f, resonance),
+                }
+                self.keep(s.fields());
+            }
+            (_, p) => {
+                let mut s = NaiveSvf::from_fields(self.of());
+                match p {
+                    Some(p) => s.set_f_q(f, resonance, p),
+                    None => s.set_f_q_by_series(f, resonance),
+                }
+                self.keep(s.fields());
+            }
+        }
+    }
+
+    // The source's answer.
+    fn answer(&mut self) {
+        let [p, q, r] = self.numbers;
+        if takes_f(self.method) {
+            return self.answer_frequency();
+        }
+        let (mode, mode_2) = (MODES[self.a], MODES[self.b]);
         if matches!(self.method, 132 | 152) && self.step == 0 {
             self.refusal = 10;
             return;
@@ -80,8 +116,6 @@ impl Call {
             20 => self.keep(OnePole::new().fields()),
             21 => on!(OnePole, |s| s.init()),
             22 => on!(OnePole, |s| s.reset()),
-            23 => out_1[0] = OnePole::tan(p, approximation),
-            24 => on!(OnePole, |s| s.set_f(p, approximation)),
             25 => on!(OnePole, |s| out_1[0] = s.process(p, mode)),
             30 => self.keep(Svf::new().fields()),
             31 => on!(Svf, |s| s.init()),
@@ -91,7 +125,6 @@ impl Call {
             34 => on!(Svf, |s| s.set_g_r_h(p, q, r)),
             35 => on!(Svf, |s| s.set_g_r(p, q)),
             36 => on!(Svf, |s| s.set_g_q(p, q)),
-            37 => on!(Svf, |s| s.set_f_q(p, q, approximation)),
             38 => on!(Svf, |s| out_1[0] = s.g()),
             39 => on!(Svf, |s| out_1[0] = s.r()),
             40 => on!(Svf, |s| out_1[0] = s.h()),
@@ -106,7 +139,6 @@ impl Call {
             50 => self.keep(NaiveSvf::new().fields()),
             51 => on!(NaiveSvf, |s| s.init()),
             52 => on!(NaiveSvf, |s| s.reset()),
-            53 => on!(NaiveSvf, |s| s.set_f_q(p, q, approximation)),
             54 => on!(NaiveSvf, |s| out_1[0] = s.lp()),
             55 => on!(NaiveSvf, |s| out_1[0] = s.bp()),
             56 => on!(NaiveSvf, |s| out_1[0] = s.process(p, mode)),
@@ -168,10 +200,10 @@ fn frequency(case: usize, f: f32) -> f32 {
     }
 }
 
-// How many modes or approximations a method takes: none, one of four, or two of four.
+// How many modes or approximations a method takes: none, one of five approximations, one mode of four, or two.
 fn choices(method: u32) -> (usize, usize) {
     match method {
-        23 | 24 | 37 | 53 => (4, 1),
+        23 | 24 | 37 | 53 => (5, 1),
         42 => (4, 4),
         25 | 41 | 56 | 130..=132 | 134 | 150 | 152 | 160 | 170 => (4, 1),
         _ => (1, 1),
@@ -182,7 +214,7 @@ fn main() {
     let mut n = Numbers(SEED);
     let mut out = std::io::stdout().lock();
     let head = format!(
-        "Answers of filter.rs with the series of documents 01 and 02 c, made by: tools/sample (seed {SEED}, {CASES} cases each). \
+        "Answers of filter.rs with the series of documents 01, 02 a and 02 c, made by: tools/sample (seed {SEED}, {CASES} cases each). \
          Blocks of 272 bytes; crates/filter_replay/src/main.rt says what they hold."
     );
     out.write_all(format!("{head:<271}\n").as_bytes()).unwrap();

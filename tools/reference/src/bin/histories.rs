@@ -16,6 +16,9 @@ const FOLDER: &str = "target/histories";
 /// How often each thing has to have been tried in a random run.
 const LEAST: u64 = 50;
 
+/// How often a call that document 02 adds has to have been accepted.
+const OFTEN: u64 = 500;
+
 /// Loads of a frequency below 0 in Exact.
 const MIRRORED_LOADS: [&str; 3] = [
     "mirrored load onepole",
@@ -170,6 +173,7 @@ fn tried_enough(counts: &Counts) -> bool {
         wanted.extend(["low", "band", "normalized", "high"].map(|m| format!("mode {of} {m}")));
     }
     wanted.extend(histories::KIND_BYTES.map(|k| format!("kind byte {k}")));
+    wanted.extend(histories::NEW_KIND_BYTES.map(|k| format!("kind byte {k}")));
     wanted.extend(MIRRORED_LOADS.map(String::from));
     for call in [
         "open",
@@ -186,14 +190,25 @@ fn tried_enough(counts: &Counts) -> bool {
         "head",
         "bad line",
         "rest of a sample that reset leaves",
+        "check1 declines edition 2",
     ] {
         wanted.push(call.to_string());
     }
+    let often = [
+        "check1 accepted",
+        "lookup1 accepted",
+        "open of edition 2",
+        "write of edition 2",
+    ];
     let mut enough = true;
-    for what in wanted {
-        let n = counts.of(&what);
-        if n < LEAST {
-            eprintln!("histories: '{what}' was tried {n} times, and should be tried {LEAST} times");
+    for (what, least) in wanted
+        .iter()
+        .map(|what| (what.as_str(), LEAST))
+        .chain(often.map(|what| (what, OFTEN)))
+    {
+        let n = counts.of(what);
+        if n < least {
+            eprintln!("histories: '{what}' was tried {n} times, and should be tried {least} times");
             enough = false;
         }
     }
@@ -222,6 +237,18 @@ fn summary(counts: &Counts) {
         MIRRORED_LOADS.iter().map(|load| counts.of(load)).sum::<u64>(),
         counts.of("bad line"),
         counts.of("long line")
+    );
+    println!(
+        "edition 2: opens {}, writes {}, loads of approximation 4 {}; the reader of edition 1: checks accepted {}, sheets of edition 2 declined {}, lookups accepted {}",
+        counts.of("open of edition 2"),
+        counts.of("write of edition 2"),
+        histories::NEW_KIND_BYTES
+            .iter()
+            .map(|k| counts.of(&format!("kind byte {k}")))
+            .sum::<u64>(),
+        counts.of("check1 accepted"),
+        counts.of("check1 declines edition 2"),
+        counts.of("lookup1 accepted"),
     );
 }
 
