@@ -43,6 +43,15 @@ unfolding firstRefusal
 first-all f zero h = refl
 first-all f (suc n) h = rw (first-all f n (λ e l. h e (omega arith)), h n (omega arith)) refl
 
+pub first-each : (f : ℕ → ℕ) (n e : ℕ) → firstRefusal n f ≡ 0 → e < n → f e ≡ 0
+unfolding firstRefusal
+first-each f zero e p h = absurd (omega arith)
+first-each f (suc n) e p h = go (then-zero (firstRefusal n f) (f n) p) (λ z l. first-each f n e z l) (eqb e n) refl
+  where
+    go : (firstRefusal n f ≡ 0) × (f n ≡ 0) → (firstRefusal n f ≡ 0 → e < n → f e ≡ 0) → (t : Bool) → eqb e n ≡ t → f e ≡ 0
+    go z i true t = rw (eqb-true e n t) (z .1)
+    go z i false t = i (z .0) (omega (arith, eqb-false e n t))
+
 pub first-none : (f : ℕ → ℕ) (n e : ℕ) → firstRefusal e f ≡ 0 → e ≤ n → n ≤ e → 0 ≡ firstRefusal n f
 first-none f n e p a b = let w : e ≡ n = omega arith in sym (rw w at p)
 

@@ -1,26 +1,27 @@
 -- The two editions side by side. Assumes nothing.
 use Prim.Native.Nat.{ℕ, zero, suc, _+_, _*_, _%_, _/_, _≤_, _<_}
-use mathlib.Core.Path.{_≡_, refl, sym, _∙_}
-use mathlib.Core.List.{List, []}
+use mathlib.Core.Path.{_≡_, refl, sym, ap, _∙_}
+use mathlib.Core.List.{List, [], _∷_}
 use mathlib.Core.Logic.{_⊎_, inl, inr}
 use native.Mathlib.Omega.{arith}
 use borrow.Author.Needs.{needs}
 use borrow.Author.Tests.{ne-eqb}
-use lib.ListN.{getD}
+use lib.ListN.{length, getD, drop}
+use lib.Seq.{drop-drop, getD-drop}
 use Rattle.filter_core.specs.Rows.{_then_}
 use Rattle.filter_core.proofs.Rows.{then-zero, below, same}
 use Rattle.sheets.specs.Edition.{approximationsIn, editionRefusal}
 use Rattle.sheets.specs.Kind.{setterFor, setterIn, setterOf, kindRefusal}
-use Rattle.sheets.specs.Refusal.{used, wordsRefusal, settingRefusal, entryRefusal}
-use Rattle.sheets.specs.Sheet.{entriesOf, entryNumberRefusal, partFor, checkAs, checkOf}
+use Rattle.sheets.specs.Refusal.{firstRefusal, used, wordsRefusal, settingRefusal, entryRefusal}
+use Rattle.sheets.specs.Sheet.{entriesOf, kindAt, settingBehind, entryAmong, sizeRefusal, refusalAt, checkOf}
 use Rattle.sheets.specs.EditionOne.{entriesOne, checkOne}
-use Rattle.sheets.specs.Editions.{Declined, Agreed, Found, BothEditions}
+use Rattle.sheets.specs.Editions.{Declined, Agreed, Found, Raised, BothEditions}
 use Rattle.sheets.specs.declared.edition.Edition.{Edition}
 use Rattle.sheets.specs.declared.edition.Edition.the-variants.{One, Two}
 use Rattle.sheets.specs.declared.entry.Entry.{Entry}
 use Rattle.sheets.specs.declared.setter.Setter.{Setter}
 use Rattle.sheets.specs.declared.setter.Setter.the-variants.{Unknown}
-use Rattle.sheets.proofs.Checks.{too-many}
+use Rattle.sheets.proofs.Checks.{first-all, first-each, too-many}
 
 -- ---- the setters of edition 1: those of edition 2 up to approximation 3, and no other
 
@@ -97,12 +98,47 @@ module _ (s : List ℕ) where
   found : getD s 1 0 ≡ 0 → Found s
   found z = let n : entriesOne s ≡ entriesOf s = omega arith in record { number = n; entry = λ e. rw n refl }
 
+-- ---- edition 2's byte in a sheet of edition 1
+
+-- an entry is read off n and what stands behind the two bytes
+module _ (n : ℕ) (s t : List ℕ) (h : drop 2 s ≡ drop 2 t) (e : ℕ) where
+  same-kind : kindAt s e ≡ kindAt t e
+  same-kind = sym (getD-drop 2 s e 0) ∙ ap (λ (x : List ℕ). getD x e 0) h ∙ getD-drop 2 t e 0
+
+  same-setting : settingBehind n s e ≡ settingBehind n t e
+  same-setting =
+      let p : 2 + n + 12 * e ≡ 2 + (n + 12 * e) = omega arith in
+      rw (p, ← drop-drop (n + 12 * e) 2 s, ← drop-drop (n + 12 * e) 2 t, h) refl
+
+  same-entry : entryAmong n s e ≡ entryAmong n t e
+  same-entry = rw (same-kind, same-setting) refl
+
+taken-in-two : (t : Entry) → entryRefusal One t ≡ 0 → entryRefusal Two t ≡ 0
+unfolding entryRefusal
+taken-in-two t z = rw (← entry-setter One t z) z
+
+module _ (n : ℕ) (r : List ℕ) where
+  abbrev old : List ℕ
+  old = n ∷ 0 ∷ r
+
+  abbrev new : List ℕ
+  new = n ∷ 2 ∷ r
+
+  raised : checkOf old ≡ 0 → Raised n r
+  raised h =
+      let z = then-zero (sizeRefusal (length old) n) (firstRefusal n (refusalAt One n old)) h in
+      let f : firstRefusal n (refusalAt Two n new) ≡ 0 =
+      first-all (refusalAt Two n new) n
+      (λ e l. rw (same-entry n new old refl e) (taken-in-two (entryAmong n old e) (first-each (refusalAt One n old) n e (z .1) l))) in
+      record { check = rw (z .0, f) refl; entry = λ e. same-entry n new old refl e }
+
 pub both-editions : BothEditions
 both-editions =
     record {
       declined = λ s h. declined s (omega arith);
       agreed = λ s h. agreed s h;
       found = λ s h. found s h;
+      raised = λ n r h. raised n r h;
       one-setter = λ b z. one-setter One b z;
     }
 

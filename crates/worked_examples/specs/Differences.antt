@@ -7,7 +7,7 @@ use Rattle.filter_core.specs.Arithmetic.{_+ᶠ_, _-ᶠ_, _*ᶠ_, word, zeroᶠ,
 use Rattle.filter_core.specs.Buffer.{bufferAfter, each, puts, putsDue}
 use Rattle.filter_core.specs.Refusal.{stepRefusal, frequencyRefusal}
 use Rattle.filter_core.specs.declared.FilterMode.the-variants.{LowPass, BandPass}
-use Rattle.filter_core.specs.declared.FrequencyApproximation.the-variants.{Exact, Accurate, Fast, Dirty}
+use Rattle.filter_core.specs.declared.FrequencyApproximation.the-variants.{Exact, Accurate, Fast, Dirty, Series}
 use Rattle.one_pole.specs.Tangent.{tanOf}
 use Rattle.multimode.specs.Multimode.{highGain, bandGain, lowGain}
 use Rattle.svf.specs.Svf.{svfNext, svfGained}
@@ -51,9 +51,10 @@ abbrev pub crossoverAfterOne : CrossoverSvf
 crossoverAfterOne = record { f = halfᶠ; fq = halfᶠ; x = oneᶠ ∷ zeroᶠ ∷ []; lp = zeros; bp = zeros }
 
 pub record Differences : Type 0 where
-  -- the tangent of an eighth turn is 1. By the series 1.0000001; by Accurate, which lacks a coefficient, 0.9975888; by Fast 0.9978163,
+  -- the tangent of an eighth turn is 1. By the series, so by Exact and by Series, 1.0000001; by Accurate, which lacks a coefficient, 0.9975888; by Fast 0.9978163,
   -- where the usual pair has 0.9999983; by Dirty 0.9663973
   pub exact-quarter : tanOf quarterᶠ Exact ≡ word 0x3f80_0001
+  pub series-quarter : tanOf quarterᶠ Series ≡ word 0x3f80_0001
   pub accurate-quarter : tanOf quarterᶠ Accurate ≡ word 0x3f7f_61fb
   pub fast-quarter : tanOf quarterᶠ Fast ≡ word 0x3f7f_70e4
   pub usual-quarter : usualQuarter ≡ word 0x3f7f_ffe3

@@ -7,7 +7,7 @@ use lib.Ieee.{Float, nan}
 use Rattle.filter_core.specs.Arithmetic.{word, zeroᶠ, halfᶠ, oneᶠ, negᶠ}
 use Rattle.filter_core.specs.Buffer.{Filtered, bufferAfter, each, puts, eachDue, putsDue}
 use Rattle.filter_core.specs.declared.FilterMode.the-variants.{LowPass, BandPass, BandPassNormalized, HighPass}
-use Rattle.filter_core.specs.declared.FrequencyApproximation.the-variants.{Exact}
+use Rattle.filter_core.specs.declared.FrequencyApproximation.the-variants.{Exact, Dirty, Series}
 use Rattle.dc_blocker.specs.DcBlocker.{dcNext, dcOut}
 use Rattle.dc_blocker.specs.declared.DcBlocker.{DcBlocker}
 use Rattle.one_pole.specs.OnePole.{onePoleNext, onePoleOut}
@@ -23,8 +23,9 @@ use Rattle.modified_svf.specs.declared.ModifiedSvf.{ModifiedSvf}
 use Rattle.crossover_svf.specs.CrossoverSvf.{crossoverNext, crossoverOut, zeros}
 use Rattle.crossover_svf.specs.declared.CrossoverSvf.{CrossoverSvf}
 use Rattle.sheets.specs.Sheet.{checkOf}
-use Rattle.library.specs.Library.{zeroBytes, libraryOf, entryAt}
-use Rattle.any_filter.specs.declared.Filter.the-variants.{Dc}
+use Rattle.sheets.specs.EditionOne.{checkOne, lookupOne}
+use Rattle.library.specs.Library.{zeroBytes, libraryOf, bytesOf, entryAt}
+use Rattle.any_filter.specs.declared.Filter.the-variants.{Dc, OnePole as OnePoleIn}
 use Rattle.loads.specs.Load.{filterOf}
 use Rattle.runs.specs.declared.RunForm.the-variants.{Plain}
 use Rattle.heads.specs.Act.{run, rest, mark, back, answered, marked, ran}
@@ -99,6 +100,13 @@ mirrorSheet b = 0x01 ∷ 0x00 ∷ 0x02 ∷ b ∷ 0x76 ∷ 0xfe ∷ 0xbe ∷ zero
 
 abbrev pub twoMirrors : List Call
 twoMirrors = opening (mirrorSheet 0xc9) ∷ opening (mirrorSheet 0xca) ∷ []
+
+-- a sheet of one entry, a one-pole filter at 0.5 in approximation 4, by its second byte: 2 is edition 2
+abbrev pub seriesSheet : ℕ → List ℕ
+seriesSheet v = 0x01 ∷ v ∷ 0x42 ∷ 0x00 ∷ 0x00 ∷ 0x00 ∷ 0x3f ∷ zeroBytes 8
+
+abbrev pub threeEditions : List Call
+threeEditions = opening (seriesSheet 2) ∷ opening (seriesSheet 0) ∷ opening (seriesSheet 1) ∷ []
 
 -- ---- the table
 
@@ -181,3 +189,12 @@ pub record WorkedExamples : Type 0 where
   pub sine-mirrored : naiveFrequency (word 0xbe99_999a) Exact ≡ word 0xbfcf_1bbe
   pub tangent-at-minus-zero : tanOf (negᶠ zeroᶠ) Exact ≡ negᶠ zeroᶠ
   pub mirror-replies : repliesTo noHistories twoMirrors ≡ plain 0 ∷ plain 11 ∷ []
+  -- document 02, a: the whole series at 0.5 is 10.617917, where the tangent has none, and gi is 0.08607395. Edition 2 takes it, edition 1 refuses
+  -- its kind byte, and the second byte 1 is no edition's. A reader of edition 1 declines the sheet and shows nothing of it
+  pub tangent-by-series : tanOf halfᶠ Series ≡ word 0x4129_e2fd
+  pub naive-by-series : naiveFrequency halfᶠ Series ≡ naiveFrequency halfᶠ Dirty
+  pub edition-replies : repliesTo noHistories threeEditions ≡ plain 0 ∷ plain 3 ∷ plain 2 ∷ []
+  pub edition-kept : bytesOf (libraryOf (seriesSheet 2)) ≡ seriesSheet 2
+  pub edition-filter : filterOf (entryAt (libraryOf (seriesSheet 2)) 0) ≡ OnePoleIn (word 0x4129_e2fd) (word 0x3db0_478a) zeroᶠ
+  pub edition-declined : checkOne (seriesSheet 2) ≡ 2
+  pub edition-not-shown : lookupOne (seriesSheet 2) 0 ≡ []

@@ -14,6 +14,7 @@ unfolding ofBits add sub mul div neg lt le dirtyA fastA fastB accurateA accurate
 computed =
     record {
       exact-quarter = refl;
+      series-quarter = refl;
       accurate-quarter = refl;
       fast-quarter = refl;
       usual-quarter = refl;

@@ -44,6 +44,13 @@ computed =
       sine-mirrored = refl;
       tangent-at-minus-zero = refl;
       mirror-replies = refl;
+      tangent-by-series = refl;
+      naive-by-series = refl;
+      edition-replies = refl;
+      edition-kept = refl;
+      edition-filter = refl;
+      edition-declined = refl;
+      edition-not-shown = refl;
     }
 
 pub worked-examples-spec : {M : Type 1} → statement M
