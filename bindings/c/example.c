@@ -16,8 +16,8 @@ static void check(const char *what, int holds) {
     checks++;
 }
 
-/* Every call that takes a mode or an approximation, with one number for it, as an int. */
-static void refuses(int n) {
+/* Every call that takes a mode or an approximation, with one number for each, as an int. */
+static void refuses(int mode, int approximation) {
     const float in[2] = {1, 9}, three[3] = {0.5f, 0.25f, 2}, four[4] = {0.5f, 1, 2, 3}, five[5] = {1, 1, 0.25f, 3, 4};
     const float eight[8] = {0.5f, 0.5f, 1, 2, 3, 4, 5, 6};
     float one_pole[3], svf[5], naive[4], modified[5], crossover[8], out[2] = {7, 7}, other[2] = {8, 8};
@@ -27,23 +27,23 @@ static void refuses(int n) {
     memcpy(modified, five, sizeof five);
     memcpy(crossover, eight, sizeof eight);
 
-    check("one_pole_tan", one_pole_tan(0.1f, n, out) == MOTIF_UNKNOWN);
-    check("one_pole_set_f", one_pole_set_f(one_pole, 0.1f, n) == MOTIF_UNKNOWN);
-    check("one_pole_process", one_pole_process(one_pole, 1, n, out) == MOTIF_UNKNOWN);
-    check("svf_set_f_q", svf_set_f_q(svf, 0.1f, 1, n) == MOTIF_UNKNOWN);
-    check("svf_process", svf_process(svf, 1, n, out) == MOTIF_UNKNOWN);
-    check("svf_process_dual, first", svf_process_dual(svf, 1, out, other, n, MOTIF_LOW_PASS) == MOTIF_UNKNOWN);
-    check("svf_process_dual, second", svf_process_dual(svf, 1, out, other, MOTIF_LOW_PASS, n) == MOTIF_UNKNOWN);
-    check("svf_process_buffer", svf_process_buffer(svf, in, 2, out, 2, n) == MOTIF_UNKNOWN);
-    check("svf_process_add_buffer", svf_process_add_buffer(svf, in, 2, out, 2, 1, n) == MOTIF_UNKNOWN);
-    check("svf_process_stride_buffer", svf_process_stride_buffer(svf, in, 2, out, 2, 1, n) == MOTIF_UNKNOWN);
-    check("svf_process_add_dual_buffer", svf_process_add_dual_buffer(svf, in, 2, out, 2, other, 2, 1, 1, n) == MOTIF_UNKNOWN);
-    check("naive_svf_set_f_q", naive_svf_set_f_q(naive, 0.1f, 1, n) == MOTIF_UNKNOWN);
-    check("naive_svf_process", naive_svf_process(naive, 1, n, out) == MOTIF_UNKNOWN);
-    check("naive_svf_process_buffer", naive_svf_process_buffer(naive, in, 2, out, 2, n) == MOTIF_UNKNOWN);
-    check("naive_svf_process_decimate", naive_svf_process_decimate(naive, in, 2, out, 2, 1, n) == MOTIF_UNKNOWN);
-    check("modified_svf_process", modified_svf_process(modified, in, 2, out, 2, n) == MOTIF_UNKNOWN);
-    check("crossover_svf_process", crossover_svf_process(crossover, in, 2, out, 2, n) == MOTIF_UNKNOWN);
+    check("one_pole_tan", one_pole_tan(0.1f, approximation, out) == MOTIF_UNKNOWN);
+    check("one_pole_set_f", one_pole_set_f(one_pole, 0.1f, approximation) == MOTIF_UNKNOWN);
+    check("one_pole_process", one_pole_process(one_pole, 1, mode, out) == MOTIF_UNKNOWN);
+    check("svf_set_f_q", svf_set_f_q(svf, 0.1f, 1, approximation) == MOTIF_UNKNOWN);
+    check("svf_process", svf_process(svf, 1, mode, out) == MOTIF_UNKNOWN);
+    check("svf_process_dual, first", svf_process_dual(svf, 1, out, other, mode, MOTIF_LOW_PASS) == MOTIF_UNKNOWN);
+    check("svf_process_dual, second", svf_process_dual(svf, 1, out, other, MOTIF_LOW_PASS, mode) == MOTIF_UNKNOWN);
+    check("svf_process_buffer", svf_process_buffer(svf, in, 2, out, 2, mode) == MOTIF_UNKNOWN);
+    check("svf_process_add_buffer", svf_process_add_buffer(svf, in, 2, out, 2, 1, mode) == MOTIF_UNKNOWN);
+    check("svf_process_stride_buffer", svf_process_stride_buffer(svf, in, 2, out, 2, 1, mode) == MOTIF_UNKNOWN);
+    check("svf_process_add_dual_buffer", svf_process_add_dual_buffer(svf, in, 2, out, 2, other, 2, 1, 1, mode) == MOTIF_UNKNOWN);
+    check("naive_svf_set_f_q", naive_svf_set_f_q(naive, 0.1f, 1, approximation) == MOTIF_UNKNOWN);
+    check("naive_svf_process", naive_svf_process(naive, 1, mode, out) == MOTIF_UNKNOWN);
+    check("naive_svf_process_buffer", naive_svf_process_buffer(naive, in, 2, out, 2, mode) == MOTIF_UNKNOWN);
+    check("naive_svf_process_decimate", naive_svf_process_decimate(naive, in, 2, out, 2, 1, mode) == MOTIF_UNKNOWN);
+    check("modified_svf_process", modified_svf_process(modified, in, 2, out, 2, mode) == MOTIF_UNKNOWN);
+    check("crossover_svf_process", crossover_svf_process(crossover, in, 2, out, 2, mode) == MOTIF_UNKNOWN);
 
     check("all outputs as they were", out[0] == 7 && out[1] == 7 && other[0] == 8 && other[1] == 8);
     check("OnePole as it was", memcmp(one_pole, three, sizeof three) == 0);
@@ -98,8 +98,9 @@ int main(void) {
     const float lowest = -0.497f, below = -0.49700004f; /* the number next below */
     check("f below -0.497", svf_set_f_q(svf, below, 1, MOTIF_EXACT) == MOTIF_FREQUENCY);
     check("all as it was", out[0] == 0.25f && out[1] == 7 && out[2] == 0.625f && svf_g(svf) == 1 && svf_h(svf) == 0.25f);
-    const int unknown[] = {4, 255, 256, 259, 65536, INT_MAX, -1, -256, INT_MIN};
-    for (size_t k = 0; k < sizeof unknown / sizeof unknown[0]; k++) refuses(unknown[k]);
+    const int unknown[] = {5, 255, 256, 260, 65536, INT_MAX, -1, -256, INT_MIN};
+    for (size_t k = 0; k < sizeof unknown / sizeof unknown[0]; k++) refuses(unknown[k], unknown[k]);
+    refuses(4, 5);
     takes_no_buffer();
 
     /* Exact below 0: the negative of the value at -f, down to -0.497 */
@@ -116,6 +117,17 @@ int main(void) {
     naive_svf_new(naive_down);
     check("the sine, mirrored", naive_svf_set_f_q(naive_down, lowest, 1, MOTIF_EXACT) == MOTIF_OK && naive_svf_set_f_q(naive_up, -lowest, 1, MOTIF_EXACT) == MOTIF_OK && naive_down[0] == -naive_up[0]);
     check("the naive set_f_q below", naive_svf_set_f_q(naive_down, below, 2, MOTIF_EXACT) == MOTIF_FREQUENCY && naive_down[0] == -naive_up[0] && naive_down[1] == 1);
+
+    /* the whole series, for sheets of edition 2: not clipped, and no reciprocal */
+    float series, exact;
+    check("the series", one_pole_tan(0.5f, MOTIF_SERIES, &series) == MOTIF_OK && series == 10.617917f);
+    check("not clipped", one_pole_tan(1.0f, MOTIF_SERIES, &series) == MOTIF_OK && series == 29434.865f);
+    check("no refusal below", one_pole_tan(below, MOTIF_SERIES, &series) == MOTIF_OK && series < 0);
+    check("up to 0.25 as Exact", one_pole_tan(0.2f, MOTIF_SERIES, &series) == MOTIF_OK && one_pole_tan(0.2f, MOTIF_EXACT, &exact) == MOTIF_OK && series == exact);
+    check("set_f by the series", one_pole_set_f(one_pole, 0.2f, MOTIF_SERIES) == MOTIF_OK && one_pole[0] == series);
+    check("set_f_q by the series", svf_set_f_q(svf, 0.2f, 1, MOTIF_SERIES) == MOTIF_OK && svf_g(svf) == series);
+    svf_set_g_r_h(svf, 1, 1, 0.25f);
+    check("the naive set_f_q as Dirty", naive_svf_set_f_q(naive_up, 0.5f, 1, MOTIF_SERIES) == MOTIF_OK && naive_svf_set_f_q(naive_down, 0.5f, 1, MOTIF_DIRTY) == MOTIF_OK && naive_up[0] == naive_down[0]);
 
     /* S5: the high-pass of multimode is inverted */
     float one[1];

@@ -18,8 +18,8 @@
  * - The floating-point flags are as a program starts: rounding to nearest, subnormal numbers kept. With others, as flush-to-zero, the
  *   numbers are not the proved ones.
  *
- * A mode or an approximation is a uint32_t, and a number above 3 is refused with MOTIF_UNKNOWN. So are 256 and -1 as an int, which
- * arrive whole. What is wider than 32 bits C cuts before the call.
+ * A mode or an approximation is a uint32_t. A mode above 3 and an approximation above 4 are refused with MOTIF_UNKNOWN. So are 256 and -1
+ * as an int, which arrive whole. What is wider than 32 bits C cuts before the call.
  */
 #ifndef MOTIF_FILTERS_H
 #define MOTIF_FILTERS_H
@@ -53,12 +53,15 @@ enum {
 
 /* An approximation: how a frequency, as a part of the sampling rate, becomes a coefficient. MOTIF_EXACT clips it at 0.497, and takes a NaN
  * for that; below 0, down to -0.497, its value is the negative of that at -f, and the filter grows from sample to
- * sample unless its resonance is below 0 too. naive_svf_set_f_q clips it at 0.158 in the three others. */
+ * sample unless its resonance is below 0 too. MOTIF_SERIES, which sheets of edition 2 have and filter.rs has not, is the tangent's whole
+ * series at every frequency: the tangent up to 0.25, and a polynomial beyond. naive_svf_set_f_q clips it at 0.158 in all but
+ * MOTIF_EXACT. */
 enum {
     MOTIF_EXACT = 0,
     MOTIF_ACCURATE = 1,
     MOTIF_FAST = 2,
-    MOTIF_DIRTY = 3
+    MOTIF_DIRTY = 3,
+    MOTIF_SERIES = 4
 };
 
 /* ---- DcBlocker: pole, x, y */

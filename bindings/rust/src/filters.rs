@@ -22,7 +22,8 @@ pub enum FilterMode {
     HighPass,
 }
 
-/// How a frequency, as a part of the sampling rate, becomes a coefficient.
+/// How a frequency, as a part of the sampling rate, becomes a coefficient. These are the source's four, so that a `match` on them that is
+/// written for `filter.rs` has every case. The fifth, which only sheets of edition 2 name, is for the frame and for C.
 ///
 /// ```
 /// use motif_filters::{FrequencyApproximation, OnePole};

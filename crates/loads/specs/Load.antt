@@ -10,8 +10,9 @@ use Rattle.modified_svf.specs.ModifiedSvf.{modifiedNew, modifiedSetFFq}
 use Rattle.crossover_svf.specs.CrossoverSvf.{crossoverNew, crossoverSetFFq}
 use Rattle.any_filter.specs.Cases.{ofDc, ofOnePole, ofSvf, ofNaive, ofModified, ofCrossover}
 use Rattle.any_filter.specs.declared.Filter.{Filter}
-use Rattle.sheets.specs.Kind.{setterIn, setterOf}
+use Rattle.sheets.specs.Kind.{setterIn}
 use Rattle.sheets.specs.declared.edition.Edition.{Edition}
+use Rattle.sheets.specs.declared.edition.Edition.the-variants.{Two}
 use Rattle.sheets.specs.declared.entry.Entry.{Entry}
 use Rattle.sheets.specs.declared.setter.Setter.{Setter}
 use Rattle.sheets.specs.declared.setter.Setter.the-variants.{DcBlocker, OnePole, SvfFrequency, SvfCoefficients, NaiveSvf, ModifiedSvf, CrossoverSvf, Unknown}
@@ -34,4 +35,4 @@ filterIn v e = filterFor (setterIn v (e .kind)) (word (e .a)) (word (e .b)) (wor
 
 -- a load asks for no edition: an entry that its edition takes makes the same filter in both (Editions.antt)
 abbrev pub filterOf : Entry → Filter
-filterOf e = filterFor (setterOf (e .kind)) (word (e .a)) (word (e .b)) (word (e .c))
+filterOf e = filterIn Two e

@@ -179,7 +179,8 @@ impl OnePole {
     fn tan_unclipped(f: f32) -> f32
         ensures { λ r. ⌜ r ≡ tanUnclipped f ⌝ }
     {
-        Self::tan_series(Self::PI * f)
+        let x = Self::PI * f;
+        Self::tan_series(x)
     }
 
     // The value alone, refused or not.

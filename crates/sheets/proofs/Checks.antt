@@ -17,7 +17,6 @@ use Rattle.sheets.specs.Refusal.{firstRefusal}
 use Rattle.sheets.specs.Sheet.{entriesOf, editionIn, Fits, Sized, settingBehind, sizeRefusal, refusalAt, checkAs, checkOf, entryNumberRefusal, partFor, checkEntryOf}
 use Rattle.sheets.specs.EditionOne.{entriesOne, checkEntryOne}
 use Rattle.sheets.specs.declared.edition.Edition.{Edition}
-use Rattle.sheets.specs.declared.edition.Edition.the-variants.{One}
 
 -- ---- the first refusal of many
 
@@ -184,10 +183,14 @@ module _ {c n : ℕ} (s : List ℕ) (e : ℕ) (f : c ≡ 0 → Fits n s) where
   found-with h = let p = then-zero c (entryNumberRefusal n e) h in (f (p .0), within (below e n) (p .1))
 
 pub found : (s : List ℕ) (e : ℕ) {r n : ℕ} → r ≡ checkEntryOf s e → n ≡ entriesOf s → r ≡ 0 → Fits n s × (e < n)
-found s e p q z = rw q (found-with s e (λ h. check-size s h .fits) (sym p ∙ z))
+found s e p q z =
+    rw q
+    (found-with s e
+    (λ h. check-fits _ (entriesOf s) s (then-zero (editionRefusal (getD s 1 0)) (checkAs (editionIn s) (entriesOf s) s) h .1))
+    (sym p ∙ z))
 
 pub found-one : (s : List ℕ) (e : ℕ) {r n : ℕ} → r ≡ checkEntryOne s e → n ≡ entriesOne s → r ≡ 0 → Fits n s × (e < n)
-found-one s e p q z = rw q (found-with s e (check-fits One (entriesOne s) s) (sym p ∙ z))
+found-one s e p q z = rw q (found-with s e (check-fits _ (entriesOne s) s) (sym p ∙ z))
 
 -- the twelve bytes from a place on, as the code takes them
 abbrev part : List ℕ → ℕ → List ℕ

@@ -21,10 +21,9 @@ pub fn edition_byte(edition: Edition) -> u8
 pub fn edition_of(byte: u8) -> Edition
     ensures { λ r. ⌜ r ≡ editionOf byte ⌝ }
 {
-    if byte == 2 {
-        Edition::Two
-    } else {
-        Edition::One
+    match byte {
+        2 => Edition::Two,
+        _ => Edition::One,
     }
 }
 
