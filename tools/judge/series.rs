@@ -1,6 +1,6 @@
 
-// The series of documents 01 and 02 c, which stand for the two calls that filter.rs has no body for, and 02 a's approximation 4, for which
-// it has none of its own.
+// The series of documents 01 and 02 c, which stand for the two calls that filter.rs has no body for, and 02 a's approximation 4, which it
+// does not have.
 mod series {
     const M_PI_F: f32 = f32::from_bits(0x40490FDB);
 
@@ -58,29 +58,43 @@ mod series {
     }
 }
 
-/// The tangent in approximation 4.
-pub fn whole_series(f: f32) -> f32 {
-    series::whole(f)
-}
+/// An approximation: one of the source's four, or none of them for 02 a's approximation 4.
+pub type Approximation = Option<FrequencyApproximation>;
 
-// The setters in approximation 4, by the source's own from the tangent on.
+// The tangent and the setters in all five. In approximation 4 they go by the source's own setters where it has one that takes a tangent.
 impl OnePole {
-    pub fn set_f_by_series(&mut self, f: f32) {
-        self.g = whole_series(f);
-        self.gi = 1.0 / (1.0 + self.g);
+    pub fn tan_in(f: f32, approximation: Approximation) -> f32 {
+        match approximation {
+            Some(p) => Self::tan(f, p),
+            None => series::whole(f),
+        }
+    }
+
+    pub fn set_f_in(&mut self, f: f32, approximation: Approximation) {
+        match approximation {
+            Some(p) => self.set_f(f, p),
+            None => {
+                self.g = series::whole(f);
+                self.gi = 1.0 / (1.0 + self.g);
+            }
+        }
     }
 }
 
 impl Svf {
-    pub fn set_f_q_by_series(&mut self, f: f32, resonance: f32) {
-        self.set_g_q(whole_series(f), resonance);
+    pub fn set_f_q_in(&mut self, f: f32, resonance: f32, approximation: Approximation) {
+        match approximation {
+            Some(p) => self.set_f_q(f, resonance, p),
+            None => self.set_g_q(series::whole(f), resonance),
+        }
     }
 }
 
 impl NaiveSvf {
     // Clipped as in all but Exact.
-    pub fn set_f_q_by_series(&mut self, f: f32, resonance: f32) {
-        self.set_f_q(f, resonance, FrequencyApproximation::Dirty);
+    pub fn set_f_q_in(&mut self, f: f32, resonance: f32, approximation: Approximation) {
+        let p = approximation.unwrap_or(FrequencyApproximation::Dirty);
+        self.set_f_q(f, resonance, p);
     }
 }
 

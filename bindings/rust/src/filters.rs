@@ -23,7 +23,7 @@ pub enum FilterMode {
 }
 
 /// How a frequency, as a part of the sampling rate, becomes a coefficient. These are the source's four, so that a `match` on them that is
-/// written for `filter.rs` has every case. The fifth, which only sheets of edition 2 name, is for the frame and for C.
+/// written for `filter.rs` has every case. There is a fifth in sheets of edition 2 and in C (`MOTIF_SERIES`), and none here.
 ///
 /// ```
 /// use motif_filters::{FrequencyApproximation, OnePole};

@@ -10,6 +10,7 @@ use Rattle.filter_core.specs.declared.FrequencyApproximation.the-variants.{Exac
 abbrev pub lastMode : ℕ
 lastMode = 3
 
+-- 4 is 02 a's
 abbrev pub lastApproximation : ℕ
 lastApproximation = 4
 

@@ -60,7 +60,7 @@ bytes-in s z =
     let b : editionByte (editionIn s) ≡ getD s 1 0 = edition-back (z .edition) in
     let c : drop n (drop 2 s) ≡ drop (2 + n) s = drop-drop n 2 s in
     let d : take n (drop 2 s) ++ drop (2 + n) s ≡ drop 2 s = rw (← c) (take-append-drop n (drop 2 s)) in
-    rw (kinds-in s (z .fits), settings-in s (z .fits), d, b) (sym (two-first s (omega arith)))
+    rw (kinds-in s (z .fits), settings-in s (z .fits), d) (ap (λ (x : ℕ). getD s 0 0 ∷ x ∷ drop 2 s) b ∙ sym (two-first s (omega arith)))
 
 -- ---- the round trips
 

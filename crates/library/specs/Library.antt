@@ -21,7 +21,7 @@ zeroBytes m = replicate m 0
 abbrev pub none : Library
 none = record { n = 0; edition = One; kinds = zeroBytes 64; settings = zeroBytes 768 }
 
--- the library of a sheet: its edition, its kind bytes and its settings, these with zeros behind
+-- the library of a sheet: its edition (02 a), its kind bytes and its settings, these with zeros behind
 abbrev pub libraryOf : List ℕ → Library
 libraryOf s =
     record {
@@ -45,7 +45,7 @@ entryAt l e = entryOf (getD (l .kinds) e 0) (settingIn l e)
 
 -- ---- writing
 
--- the sheet of a library
+-- the sheet of a library, in its edition (02 a)
 abbrev pub bytesOf : Library → List ℕ
 bytesOf l = (l .n ∷ editionByte (l .edition) ∷ take (l .n) (l .kinds)) ++ take (12 * l .n) (l .settings)
 

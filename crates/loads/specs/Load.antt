@@ -33,6 +33,6 @@ filterFor Unknown a b c = ofDc (dcInit dcNew a)
 abbrev pub filterIn : Edition → Entry → Filter
 filterIn v e = filterFor (setterIn v (e .kind)) (word (e .a)) (word (e .b)) (word (e .c))
 
--- a load asks for no edition: an entry that its edition takes makes the same filter in both (Editions.antt)
+-- a load asks for no edition: an entry that its edition takes makes here the filter that it has there (Editions.antt)
 abbrev pub filterOf : Entry → Filter
 filterOf e = filterIn Two e

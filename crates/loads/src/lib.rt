@@ -63,7 +63,8 @@ pub fn loads_are_set()
     ensures { λ _. ⌜ LoadsAreSet ⌝ }
 {}
 
-// A load asks for no edition: an entry that its edition takes makes one filter, and a sheet of edition 1 the filters that it made before.
+// A load asks for no edition: an entry makes the filter that its own edition gives it, and a sheet of edition 1 makes what a reader of
+// edition 1 finds in it.
 pub fn loads_in_both_editions()
     ensures { λ _. ⌜ LoadsInBothEditions ⌝ }
 {}

@@ -30,7 +30,7 @@ sineMirrored f = odd sineExact f
 abbrev pub naiveExact : Float → Float
 naiveExact f = twoᶠ *ᶠ sineMirrored f
 
--- clipped at 0.158
+-- clipped at 0.158: the source's three others, and 02 a's approximation 4
 abbrev pub naiveLinear : Float → Float
 naiveLinear f = twoᶠ *ᶠ πᶠ *ᶠ clipAt (word 0x3e21_cac1) f
 

@@ -96,15 +96,15 @@ tanAccurate f =
 -- ---- 02 a's approximation 4
 
 -- T(π f) at every f: not clipped, and no reciprocal
-abbrev pub tanUnclipped : Float → Float
-tanUnclipped f = tanSeries (πᶠ *ᶠ f)
+abbrev pub tanBySeries : Float → Float
+tanBySeries f = tanSeries (πᶠ *ᶠ f)
 
 abbrev pub tanOf : Float → FrequencyApproximation → Float
 tanOf f Exact = tanMirrored f
 tanOf f Accurate = tanAccurate f
 tanOf f Fast = tanFast f
 tanOf f Dirty = tanDirty f
-tanOf f Series = tanUnclipped f
+tanOf f Series = tanBySeries f
 
 -- Exact's tangent is odd
 abbrev pub TangentIsOdd : Type 0

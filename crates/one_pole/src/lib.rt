@@ -5,7 +5,7 @@ use filter_core::FrequencyApproximation;
 ghost use mathlib.Core.Path.{_≡_};
 ghost use Rattle.filter_core.specs.Refusal.{frequencyRefusal, unlessRefused};
 ghost use Rattle.filter_core.specs.Arithmetic.{zeroᶠ};
-ghost use Rattle.one_pole.specs.Tangent.{tanSeries, tangent, tanExact, tanMirrored, tanDirty, tanFast, tanAccurate, tanUnclipped, tanOf, TangentIsOdd};
+ghost use Rattle.one_pole.specs.Tangent.{tanSeries, tangent, tanExact, tanMirrored, tanDirty, tanFast, tanAccurate, tanBySeries, tanOf, TangentIsOdd};
 ghost use Rattle.one_pole.specs.OnePole.{onePoleNew, onePoleInit, onePoleReset, onePoleSetG, onePoleSetF, onePoleNext, onePoleOut};
 
 pub struct OnePole {
@@ -106,7 +106,7 @@ impl OnePole {
         }
     }
 
-    // tan x by the series, for x up to a quarter turn.
+    // 01's T: tan x for x up to an eighth turn, and a polynomial beyond.
     fn tan_series(x: f32) -> f32
         ensures { λ r. ⌜ r ≡ tanSeries x ⌝ }
     {
@@ -176,8 +176,8 @@ impl OnePole {
     }
 
     // The whole series at every f.
-    fn tan_unclipped(f: f32) -> f32
-        ensures { λ r. ⌜ r ≡ tanUnclipped f ⌝ }
+    fn tan_by_series(f: f32) -> f32
+        ensures { λ r. ⌜ r ≡ tanBySeries f ⌝ }
     {
         let x = Self::PI * f;
         Self::tan_series(x)
@@ -192,7 +192,7 @@ impl OnePole {
             FrequencyApproximation::Accurate => Self::tan_accurate(f),
             FrequencyApproximation::Fast => Self::tan_fast(f),
             FrequencyApproximation::Dirty => Self::tan_dirty(f),
-            FrequencyApproximation::Series => Self::tan_unclipped(f),
+            FrequencyApproximation::Series => Self::tan_by_series(f),
         }
     }
 

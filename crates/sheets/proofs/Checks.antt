@@ -121,17 +121,18 @@ module _ (v : Edition) (n : ℕ) (s : List ℕ) where
 
 -- ---- editions
 
-data Edited (b : ℕ) : Type 0 where
-  edited : (b ≡ 0) ⊎ (b ≡ 2) → editionRefusal b ≡ 0 → Edited b
-  unedited : ((b ≡ 0) ⊎ (b ≡ 2) → ⊥) → editionRefusal b ≡ 2 → Edited b
+-- a second byte names an edition and is accepted, or neither
+data Named (b : ℕ) : Type 0 where
+  named : (b ≡ 0) ⊎ (b ≡ 2) → editionRefusal b ≡ 0 → Named b
+  unnamed : ((b ≡ 0) ⊎ (b ≡ 2) → ⊥) → editionRefusal b ≡ 2 → Named b
 
-edited-of : (b : ℕ) → Edited b
-edited-of b = go (same b 0) (same b 2)
+named-of : (b : ℕ) → Named b
+named-of b = go (same b 0) (same b 2)
   where
-    go : (b ≡ 0) ⊎ (b ≡ 0 → ⊥) → (b ≡ 2) ⊎ (b ≡ 2 → ⊥) → Edited b
-    go (inl x) y = edited (inl x) (rw x refl)
-    go (inr x) (inl y) = edited (inr y) (rw y refl)
-    go (inr x) (inr y) = unedited (λ o. ⊎-elim x y o) (rw (ne-eqb b 0 x, ne-eqb b 2 y) refl)
+    go : (b ≡ 0) ⊎ (b ≡ 0 → ⊥) → (b ≡ 2) ⊎ (b ≡ 2 → ⊥) → Named b
+    go (inl x) y = named (inl x) (rw x refl)
+    go (inr x) (inl y) = named (inr y) (rw y refl)
+    go (inr x) (inr y) = unnamed (λ o. ⊎-elim x y o) (rw (ne-eqb b 0 x, ne-eqb b 2 y) refl)
 
 -- the byte of an edition comes back
 pub edition-back : {b : ℕ} → (b ≡ 0) ⊎ (b ≡ 2) → editionByte (editionOf b) ≡ b
@@ -150,12 +151,12 @@ pub data Size (s : List ℕ) : Type 0 where
   wrong : (Sized s → ⊥) → checkOf s ≡ 2 → Size s
 
 pub size-of : (s : List ℕ) → Size s
-size-of s = go (edited-of (getD s 1 0)) (fit-of (entriesOf s) s)
+size-of s = go (named-of (getD s 1 0)) (fit-of (entriesOf s) s)
   where
-    go : Edited (getD s 1 0) → Fit (entriesOf s) s → Size s
-    go (unedited x p) y = wrong (λ z. x (z .edition)) (rw p refl)
-    go (edited x p) (unfit y q) = wrong (λ z. y (z .fits)) (rw (p, q) refl)
-    go (edited x p) (fit y q) = right (record { edition = x; fits = y }) (rw (p, q) refl)
+    go : Named (getD s 1 0) → Fit (entriesOf s) s → Size s
+    go (unnamed x p) y = wrong (λ z. x (z .edition)) (rw p refl)
+    go (named x p) (unfit y q) = wrong (λ z. y (z .fits)) (rw (p, q) refl)
+    go (named x p) (fit y q) = right (record { edition = x; fits = y }) (rw (p, q) refl)
 
 pub whole : (s : List ℕ) {b a n c r : ℕ} {v : Edition} → b ≡ getD s 1 0 → a ≡ editionRefusal b → v ≡ editionIn s → n ≡ entriesOf s → c ≡ checkAs v n s
     → r ≡ (a then c) → r ≡ checkOf s

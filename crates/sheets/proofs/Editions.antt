@@ -1,7 +1,7 @@
 -- The two editions side by side. Assumes nothing.
 use Prim.Native.Nat.{ℕ, zero, suc, _+_, _*_, _%_, _/_, _≤_, _<_}
 use mathlib.Core.Path.{_≡_, refl, sym, ap, _∙_}
-use mathlib.Core.List.{List, [], _∷_}
+use mathlib.Core.List.{List, _∷_}
 use mathlib.Core.Logic.{_⊎_, inl, inr}
 use native.Mathlib.Omega.{arith}
 use borrow.Author.Needs.{needs}
@@ -142,4 +142,4 @@ both-editions =
       one-setter = λ b z. one-setter One b z;
     }
 
-pub ruleset settings = (in-one, not-in-one, in-two, needs)
+pub ruleset setters = (in-one, not-in-one, in-two, needs)

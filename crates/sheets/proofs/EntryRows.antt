@@ -11,10 +11,10 @@ use Rattle.words.specs.Word.{writtenNan}
 use Rattle.filter_core.specs.Rows.{_then_, here, later}
 use Rattle.words.proofs.Words.{nan-test}
 use Rattle.filter_core.proofs.Rows.{Step, yes, no, step-to, first-then, first-last}
+use Rattle.sheets.specs.Edition.{editionOf}
 use Rattle.sheets.specs.Kind.{setterIn}
 use Rattle.sheets.specs.Refusal.{wordRefusal, wordsRefusal, entryRefusal}
 use Rattle.sheets.specs.Rows.{KindWrong, WordWrong, unused, another-nan, WordsWrong, wrong-a, wrong-b, wrong-c, FrequencyWrong, wordsUsed, EntryCase, wrong-kind, wrong-words, wrong-frequency, EntryRow}
-use Rattle.sheets.specs.declared.edition.Edition.{Edition}
 use Rattle.sheets.specs.declared.entry.Entry.{Entry}
 use Rattle.sheets.proofs.KindRows.{Kind, wrong, right, kind-of}
 
@@ -57,27 +57,27 @@ words-step u t = go (word-step u 0 (t .a)) (word-step u 1 (t .b)) (word-step u 2
 
 -- ---- a case, by its number
 
-module _ {v : Edition} {t : Entry} where
-  kind-case : {r : ℕ} → r ≡ 3 → EntryCase v t r → KindWrong v (t .kind % 16) (t .kind / 16)
+module _ {b : ℕ} {t : Entry} where
+  kind-case : {r : ℕ} → r ≡ 3 → EntryCase b t r → KindWrong b (t .kind % 16) (t .kind / 16)
   kind-case e (wrong-kind w) = w
   kind-case e (wrong-words w) = absurd (omega arith)
   kind-case e (wrong-frequency w) = absurd (omega arith)
 
-  words-case : {r : ℕ} → r ≡ 4 → EntryCase v t r → WordsWrong (wordsUsed (t .kind % 16)) t
+  words-case : {r : ℕ} → r ≡ 4 → EntryCase b t r → WordsWrong (wordsUsed (t .kind % 16)) t
   words-case e (wrong-kind w) = absurd (omega arith)
   words-case e (wrong-words w) = w
   words-case e (wrong-frequency w) = absurd (omega arith)
 
-  frequency-case : {r : ℕ} → r ≡ 11 → EntryCase v t r → FrequencyWrong (t .kind % 16) (t .kind / 16) (t .a)
+  frequency-case : {r : ℕ} → r ≡ 11 → EntryCase b t r → FrequencyWrong (t .kind % 16) (t .kind / 16) (t .a)
   frequency-case e (wrong-kind w) = absurd (omega arith)
   frequency-case e (wrong-words w) = absurd (omega arith)
   frequency-case e (wrong-frequency w) = w
 
-pub entry-row : (v : Edition) (t : Entry) → EntryRow v t (entryRefusal v t)
+pub entry-row : (b : ℕ) (t : Entry) → EntryRow b t (entryRefusal (editionOf b) t)
 unfolding entryRefusal
-entry-row v t = go (kind-of v (t .kind % 16) (t .kind / 16))
+entry-row b t = go (kind-of b (t .kind % 16) (t .kind / 16))
   where
-    go : Kind v (t .kind % 16) (t .kind / 16) (setterIn v (t .kind)) → EntryRow v t (entryRefusal v t)
+    go : Kind b (t .kind % 16) (t .kind / 16) (setterIn (editionOf b) (t .kind)) → EntryRow b t (entryRefusal (editionOf b) t)
     go (wrong w e) = rw e (here (wrong-kind w))
     go (right n e u f) =
         rw (e, u)

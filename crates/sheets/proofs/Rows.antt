@@ -7,10 +7,10 @@ use mathlib.Core.Logic.{_⊎_, inl, inr}
 use native.Mathlib.Omega.{arith}
 use borrow.Author.Tests.{eqb-true, eqb-false, ne-eqb, ltb-true, ltb-false, lt-ltb, le-ltb}
 use lib.Dec.{eqb, ltb}
-use lib.ListN.{length, drop, length-drop}
+use lib.ListN.{length, getD, drop, length-drop}
 use lib.Seq.{length-take-le}
 use Rattle.filter_core.proofs.Rows.{once, some-then}
-use Rattle.sheets.specs.Sheet.{entriesOf, editionIn, entryIn, checkOf, entryNumberRefusal, checkEntryOf, lookupOf}
+use Rattle.sheets.specs.Sheet.{entriesOf, entryIn, checkOf, entryNumberRefusal, checkEntryOf, lookupOf}
 use Rattle.sheets.specs.Rows.{RowAt, Sheet, SheetRow, is-sheet, wrong-size, wrong-entry, LookupRow, is-found, no-sheet, no-entry, Checked}
 use Rattle.sheets.proofs.Checks.{numberAt, Size, right, wrong, size-of, first-found, first-all, found}
 use Rattle.sheets.proofs.EntryRows.{entry-row}
@@ -40,7 +40,7 @@ scan f (suc n) = go (scan f n) (eqb (f n) 0) refl
 
 module _ (s : List ℕ) where
   row-at : (e : ℕ) → RowAt s e (numberAt s e)
-  row-at e = entry-row (editionIn s) (entryIn s e)
+  row-at e = entry-row (getD s 1 0) (entryIn s e)
 
   number-at : (e : ℕ) {r : ℕ} → RowAt s e r → numberAt s e ≡ r
   number-at e p = once (row-at e) p

@@ -16,7 +16,7 @@ editionByte Two = 2
 abbrev pub editionOf : ℕ → Edition
 editionOf b = cond (eqb b 2) Two One
 
--- `size` of the refusal table, for the second byte
+-- `size` of the refusal table, for the second byte (02 a)
 abbrev pub editionRefusal : ℕ → ℕ
 editionRefusal b = cond (eqb b 0) 0 (cond (eqb b 2) 0 2)
 

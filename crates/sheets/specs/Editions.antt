@@ -1,5 +1,5 @@
 -- The two editions side by side (02 a): what the reader of edition 1 does with the sheets of both, and what a kind byte means in both.
-use Prim.Native.Nat.{ℕ, _<_}
+use Prim.Native.Nat.{ℕ}
 use mathlib.Core.Path.{_≡_}
 use mathlib.Core.List.{List, [], _∷_}
 use lib.ListN.{getD}

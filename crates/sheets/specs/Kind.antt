@@ -32,11 +32,11 @@ setterFor ps kind p =
     kind
     Unknown
 
--- kind byte = kind + 16 * approximation
+-- kind byte = kind + 16 * approximation; 02 a: the edition says which approximations there are
 abbrev pub setterIn : Edition → ℕ → Setter
 setterIn e b = setterFor (approximationsIn e) (b % 16) (b / 16)
 
--- a byte that an edition takes names the same setter in the other (Editions.antt), so that a load asks for no edition
+-- a byte that edition 1 takes names the same setter here (Editions.antt), so that a load asks for no edition
 abbrev pub setterOf : ℕ → Setter
 setterOf b = setterIn Two b
 

@@ -10,22 +10,17 @@ use lib.ListN.{length, getD}
 use Rattle.filter_core.specs.Arithmetic.{word}
 use Rattle.filter_core.specs.Rows.{First, Only, FrequencyCase}
 use Rattle.filter_core.specs.declared.FrequencyApproximation.the-variants.{Exact}
-use Rattle.sheets.specs.Sheet.{entriesOf, editionIn, Sized, entryIn, wordAt, checkOf, checkEntryOf, lookupOf}
-use Rattle.sheets.specs.declared.edition.Edition.{Edition}
-use Rattle.sheets.specs.declared.edition.Edition.the-variants.{One, Two}
+use Rattle.sheets.specs.Sheet.{entriesOf, Sized, entryIn, wordAt, checkOf, checkEntryOf, lookupOf}
 use Rattle.sheets.specs.declared.entry.Entry.{Entry}
 
--- the last approximation of an edition
-abbrev pub lastApproximation : Edition → ℕ
-lastApproximation One = 3
-lastApproximation Two = 4
-
--- `kind`: not 1 to 7, or an approximation that it does not take: 2, 3 and 5 take 0 to the last, the others 0
-pub data KindWrong (v : Edition) (kind approximation : ℕ) : Type 0 where
-  no-kind : kind ≡ 0 → KindWrong v kind approximation
-  past-kinds : 7 < kind → KindWrong v kind approximation
-  past-approximations : lastApproximation v < approximation → KindWrong v kind approximation
-  not-exact : (kind ≡ 2 → ⊥) → (kind ≡ 3 → ⊥) → (kind ≡ 5 → ⊥) → 0 < approximation → KindWrong v kind approximation
+-- `kind`: not 1 to 7, or an approximation that it does not take. The kinds 2, 3 and 5 take 0 to 3, and by 02 a also 4 where the sheet's
+-- second byte b is 2; the others take 0
+pub data KindWrong (b kind approximation : ℕ) : Type 0 where
+  no-kind : kind ≡ 0 → KindWrong b kind approximation
+  past-kinds : 7 < kind → KindWrong b kind approximation
+  past-approximations : 4 < approximation → KindWrong b kind approximation
+  past-edition-1 : (b ≡ 2 → ⊥) → 3 < approximation → KindWrong b kind approximation
+  not-exact : (kind ≡ 2 → ⊥) → (kind ≡ 3 → ⊥) → (kind ≡ 5 → ⊥) → 0 < approximation → KindWrong b kind approximation
 
 -- how many of the words a, b, c the kinds 1 to 7 use
 abbrev pub wordsUsed : ℕ → ℕ
@@ -48,18 +43,18 @@ pub record FrequencyWrong (kind approximation a : ℕ) : Type 0 where
   pub refused : FrequencyCase (word a) Exact 11
 
 -- kind byte = kind + 16 * approximation
-pub data EntryCase (v : Edition) (t : Entry) : ℕ → Type 0 where
-  wrong-kind : KindWrong v (t .kind % 16) (t .kind / 16) → EntryCase v t 3
-  wrong-words : WordsWrong (wordsUsed (t .kind % 16)) t → EntryCase v t 4
-  wrong-frequency : FrequencyWrong (t .kind % 16) (t .kind / 16) (t .a) → EntryCase v t 11
+pub data EntryCase (b : ℕ) (t : Entry) : ℕ → Type 0 where
+  wrong-kind : KindWrong b (t .kind % 16) (t .kind / 16) → EntryCase b t 3
+  wrong-words : WordsWrong (wordsUsed (t .kind % 16)) t → EntryCase b t 4
+  wrong-frequency : FrequencyWrong (t .kind % 16) (t .kind / 16) (t .a) → EntryCase b t 11
 
--- the number of the entry t in the edition v, 0 where nothing is wrong
-abbrev pub EntryRow : Edition → Entry → ℕ → Type 0
-EntryRow v t r = First (EntryCase v t) (3 ∷ 4 ∷ 11 ∷ []) r
+-- the number of the entry t of a sheet with the second byte b, 0 where nothing is wrong
+abbrev pub EntryRow : ℕ → Entry → ℕ → Type 0
+EntryRow b t r = First (EntryCase b t) (3 ∷ 4 ∷ 11 ∷ []) r
 
 -- the number of a sheet's entry e
 abbrev pub RowAt : List ℕ → ℕ → ℕ → Type 0
-RowAt s e r = EntryRow (editionIn s) (entryIn s e) r
+RowAt s e r = EntryRow (getD s 1 0) (entryIn s e) r
 
 pub record Sheet (s : List ℕ) : Type 0 where
   pub size : Sized s

@@ -1,4 +1,4 @@
-// A reader that knows edition 1 only, beside the one of both: the programs that read sheets before there was another.
+// A reader that knows edition 1 only, beside the one of both, for programs that know no other.
 
 ghost use mathlib.Core.Path.{_≡_};
 ghost use Rattle.sheets.specs.EditionOne.{entriesOne, checkOne, checkEntryOne, lookupOne};

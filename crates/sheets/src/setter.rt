@@ -16,7 +16,7 @@ pub enum Setter {
     Unknown,
 }
 
-// A kind byte is kind + 16 * approximation. This table is the one place that knows which of them name a setter.
+// A kind byte is kind + 16 * approximation. This table, edition 2's, says which of them name a setter, and which one.
 pub fn setter_of(kind: u8) -> Setter
     ensures { λ r. ⌜ r ≡ setterOf kind ⌝ }
 {
@@ -44,7 +44,7 @@ pub fn setter_of(kind: u8) -> Setter
     }
 }
 
-// The same in a sheet of an edition: 1 has the approximations 0 to 3 only.
+// The same in a sheet of an edition: edition 1 has the approximations 0 to 3 only.
 pub fn setter_in(edition: Edition, kind: u8) -> Setter
     ensures { λ r. ⌜ r ≡ setterIn edition kind ⌝ }
 {

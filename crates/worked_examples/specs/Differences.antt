@@ -51,8 +51,8 @@ abbrev pub crossoverAfterOne : CrossoverSvf
 crossoverAfterOne = record { f = halfᶠ; fq = halfᶠ; x = oneᶠ ∷ zeroᶠ ∷ []; lp = zeros; bp = zeros }
 
 pub record Differences : Type 0 where
-  -- the tangent of an eighth turn is 1. By the series, so by Exact and by Series, 1.0000001; by Accurate, which lacks a coefficient, 0.9975888; by Fast 0.9978163,
-  -- where the usual pair has 0.9999983; by Dirty 0.9663973
+  -- the tangent of an eighth turn is 1. By the series, so by Exact and by Series, 1.0000001; by Accurate, which lacks a coefficient,
+  -- 0.9975888; by Fast 0.9978163, where the usual pair has 0.9999983; by Dirty 0.9663973
   pub exact-quarter : tanOf quarterᶠ Exact ≡ word 0x3f80_0001
   pub series-quarter : tanOf quarterᶠ Series ≡ word 0x3f80_0001
   pub accurate-quarter : tanOf quarterᶠ Accurate ≡ word 0x3f7f_61fb

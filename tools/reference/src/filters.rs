@@ -106,18 +106,12 @@ pub fn loaded(kind: u8, approximation: u8, words: [u32; 3]) -> Filter {
         }
         2 => {
             let mut f = OnePole::new();
-            match approximation {
-                Some(p) => f.set_f(a, p),
-                None => f.set_f_by_series(a),
-            }
+            f.set_f_in(a, approximation);
             Filter::OnePole(f)
         }
         3 => {
             let mut f = Svf::new();
-            match approximation {
-                Some(p) => f.set_f_q(a, b, p),
-                None => f.set_f_q_by_series(a, b),
-            }
+            f.set_f_q_in(a, b, approximation);
             Filter::Svf(f)
         }
         4 => {
@@ -127,10 +121,7 @@ pub fn loaded(kind: u8, approximation: u8, words: [u32; 3]) -> Filter {
         }
         5 => {
             let mut f = NaiveSvf::new();
-            match approximation {
-                Some(p) => f.set_f_q(a, b, p),
-                None => f.set_f_q_by_series(a, b),
-            }
+            f.set_f_q_in(a, b, approximation);
             Filter::Naive(f)
         }
         6 => {

@@ -15,7 +15,7 @@ pub fn hex(bytes: &[u8]) -> String {
 pub const KIND_BYTES: [u8; 16] = [
     0x01, 0x02, 0x12, 0x22, 0x32, 0x03, 0x13, 0x23, 0x33, 0x04, 0x05, 0x15, 0x25, 0x35, 0x06, 0x07,
 ];
-pub const NEW_KIND_BYTES: [u8; 3] = [0x42, 0x43, 0x45];
+pub const EDITION_2_KIND_BYTES: [u8; 3] = [0x42, 0x43, 0x45];
 
 /// The second byte of each edition.
 const EDITION_1: u8 = 0;
@@ -282,7 +282,8 @@ impl Writer {
             2 => sheet[0] = self.numbers.pick(&[0, 1, 63, 64, 65, 255]),
             3 => {
                 sheet[1] = match self.numbers.below(3) {
-                    0 => EDITION_1 + EDITION_2 - sheet[1],
+                    0 if sheet[1] == EDITION_1 => EDITION_2,
+                    0 => EDITION_1,
                     1 => self.numbers.pick(&[1, 3, 4, 255]),
                     _ => self.numbers.next() as u8,
                 }
@@ -624,10 +625,10 @@ pub const LETTERS: u64 = 9;
 /// Every list of exactly so many letters, twelve to a history: each list has a head of its own on a fresh frame, and what the head holds
 /// is asked for at the end. Shorter lists are the starts of these.
 pub fn short(length: u32) -> impl Iterator<Item = Vec<u8>> {
-    // The sheets: one-pole and naive at 0.1, in turn, so that two types are tried.
+    // The sheets: one-pole in Exact and naive in approximation 4, at 0.1, in turn, so that two types and both editions are tried.
     let sheets = [
         "open 010002cdcccc3d0000000000000000",
-        "open 010005cdcccc3d0000003f00000000",
+        "open 010245cdcccc3d0000003f00000000",
     ];
     let lists = LETTERS.pow(length);
     (0..lists).step_by(12).map(move |first| {
@@ -672,7 +673,7 @@ pub fn sheet_changes() -> impl Iterator<Item = Vec<u8>> {
         sheets
             .extend([0xBEFE_76C9, 0xBE80_0000, 0x8000_0000].map(|f| valid(EDITION_1, &[kind], f)));
     }
-    for kind in [1, 2].into_iter().chain(NEW_KIND_BYTES) {
+    for kind in [1, 2].into_iter().chain(EDITION_2_KIND_BYTES) {
         sheets.push(valid(EDITION_2, &[kind], fifth));
     }
     sheets.push(valid(

@@ -98,3 +98,13 @@ pub fn lookup(check: Check, sheet: &[u8], e: u64) -> &[u8] {
     let at = 2 + entries(sheet) + 12 * e as usize;
     &sheet[at..at + 12]
 }
+
+/// Whether all but the second byte would be a sheet.
+pub fn is_no_edition(sheet: &[u8]) -> bool {
+    sheet.len() >= 2 && ![0, 2].contains(&sheet[1]) && checked(sheet, entries(sheet), 4) == 0
+}
+
+/// Whether it would be a sheet of edition 2, and is none of edition 1.
+pub fn is_raised(sheet: &[u8]) -> bool {
+    sheet[1] == 0 && checked(sheet, entries(sheet), 4) == 0
+}

@@ -240,6 +240,8 @@ fn lookup(
     counts.add(name, 1);
     if !part.is_empty() {
         counts.add(&format!("{name} accepted"), 1);
+    } else if sheets::check_entry(sheets::check, &sheet, entry) == 0 {
+        counts.add(&format!("{name} shows nothing of edition 2"), 1);
     }
     to.push_str(name);
     to.push(' ');
@@ -255,6 +257,10 @@ fn call(frame: &mut Frame, line: &[u8], counts: &mut Counts, to: &mut String) ->
             let number = frame.open(&sheet);
             if number == 0 {
                 counts.add(&format!("open of edition {}", edition(&sheet)), 1);
+            } else if sheets::is_no_edition(&sheet) {
+                counts.add("open of no edition", 1);
+            } else if number == 3 && sheets::is_raised(&sheet) {
+                counts.add("open of approximation 4 in edition 1", 1);
             }
             numbered("open", number, counts, to);
         }

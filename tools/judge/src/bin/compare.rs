@@ -68,7 +68,7 @@ impl Tally {
 
     fn fail(&self, part: &str, source: String, ours: String) -> ! {
         println!(
-            "{} differs in {part}: the source has {source}, the proved filter {ours}",
+            "{} differs in {part}: {source} is expected, the proved filter has {ours}",
             self.method
         );
         println!("at {}", self.what);
@@ -239,9 +239,9 @@ fn one_pole_by_series(t: &mut Tally, w: [f32; 3], f: f32) {
     let (mut a, mut state, mut value) = (oracle::OnePole::from_fields(w), w, 0.0);
     t.at("OnePole by the series", format!("{w:?} {f:?}"));
     t.refusal(0, unsafe { ffi::one_pole_tan(f, SERIES, &mut value) });
-    t.words("the value", &[oracle::whole_series(f)], &[value]);
+    t.words("the value", &[oracle::OnePole::tan_in(f, None)], &[value]);
     t.refusal(0, unsafe { ffi::one_pole_set_f(&mut state, f, SERIES) });
-    a.set_f_by_series(f);
+    a.set_f_in(f, None);
     t.words("the field", &a.fields(), &state);
 }
 
@@ -251,7 +251,7 @@ fn svf_by_series(t: &mut Tally, w: [f32; 5], f: f32, resonance: f32) {
     t.refusal(0, unsafe {
         ffi::svf_set_f_q(&mut state, f, resonance, SERIES)
     });
-    a.set_f_q_by_series(f, resonance);
+    a.set_f_q_in(f, resonance, None);
     t.words("the field", &a.fields(), &state);
 }
 
@@ -264,7 +264,7 @@ fn naive_by_series(t: &mut Tally, w: [f32; 4], f: f32, resonance: f32) {
     t.refusal(0, unsafe {
         ffi::naive_svf_set_f_q(&mut state, f, resonance, SERIES)
     });
-    a.set_f_q_by_series(f, resonance);
+    a.set_f_q_in(f, resonance, None);
     t.words("the field", &a.fields(), &state);
 }
 
@@ -768,7 +768,7 @@ fn every_word(
                 matches!(got, Ok(x) if bits(x) == bits(theirs(f)))
             };
             if !right {
-                println!("{name} at {word:08x}: {got:?}, the source {:?}", theirs(f));
+                println!("{name} at {word:08x}: {got:?}, expected {:?}", theirs(f));
                 std::process::exit(1);
             }
         }
@@ -822,7 +822,7 @@ fn full() {
                 _ => Err(Refusal::Frequency),
             }
         },
-        oracle::whole_series,
+        |f| oracle::OnePole::tan_in(f, None),
     );
     total += every_word(
         "naive_svf_set_f_q by the series",
@@ -836,7 +836,7 @@ fn full() {
         },
         |f| {
             let mut s = oracle::NaiveSvf::from_fields([0.0; 4]);
-            s.set_f_q_by_series(f, 1.0);
+            s.set_f_q_in(f, 1.0, None);
             s.fields()[0]
         },
     );

@@ -57,31 +57,21 @@ impl Call {
             self.refusal = u32::from(refusal);
             return;
         }
-        match (self.method, source) {
-            (23, Some(p)) => self.out_1[0] = OnePole::tan(f, p),
-            (23, None) => self.out_1[0] = oracle::whole_series(f),
-            (24, p) => {
+        match self.method {
+            23 => self.out_1[0] = OnePole::tan_in(f, source),
+            24 => {
                 let mut s = OnePole::from_fields(self.of());
-                match p {
-                    Some(p) => s.set_f(f, p),
-                    None => s.set_f_by_series(f),
-                }
+                s.set_f_in(f, source);
                 self.keep(s.fields());
             }
-            (37, p) => {
+            37 => {
                 let mut s = Svf::from_fields(self.of());
-                match p {
-                    Some(p) => s.set_f_q(f, resonance, p),
-                    None => s.set_f_q_by_series(f, resonance),
-                }
+                s.set_f_q_in(f, resonance, source);
                 self.keep(s.fields());
             }
-            (_, p) => {
+            _ => {
                 let mut s = NaiveSvf::from_fields(self.of());
-                match p {
-                    Some(p) => s.set_f_q(f, resonance, p),
-                    None => s.set_f_q_by_series(f, resonance),
-                }
+                s.set_f_q_in(f, resonance, source);
                 self.keep(s.fields());
             }
         }

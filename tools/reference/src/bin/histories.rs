@@ -173,7 +173,7 @@ fn tried_enough(counts: &Counts) -> bool {
         wanted.extend(["low", "band", "normalized", "high"].map(|m| format!("mode {of} {m}")));
     }
     wanted.extend(histories::KIND_BYTES.map(|k| format!("kind byte {k}")));
-    wanted.extend(histories::NEW_KIND_BYTES.map(|k| format!("kind byte {k}")));
+    wanted.extend(histories::EDITION_2_KIND_BYTES.map(|k| format!("kind byte {k}")));
     wanted.extend(MIRRORED_LOADS.map(String::from));
     for call in [
         "open",
@@ -191,6 +191,9 @@ fn tried_enough(counts: &Counts) -> bool {
         "bad line",
         "rest of a sample that reset leaves",
         "check1 declines edition 2",
+        "lookup1 shows nothing of edition 2",
+        "open of no edition",
+        "open of approximation 4 in edition 1",
     ] {
         wanted.push(call.to_string());
     }
@@ -242,7 +245,7 @@ fn summary(counts: &Counts) {
         "edition 2: opens {}, writes {}, loads of approximation 4 {}; the reader of edition 1: checks accepted {}, sheets of edition 2 declined {}, lookups accepted {}",
         counts.of("open of edition 2"),
         counts.of("write of edition 2"),
-        histories::NEW_KIND_BYTES
+        histories::EDITION_2_KIND_BYTES
             .iter()
             .map(|k| counts.of(&format!("kind byte {k}")))
             .sum::<u64>(),
