@@ -1,5 +1,6 @@
 -- The refusal table of document 01 for a sheet, with 02 a's, row by row: the case of each number as a statement about the bytes.
--- The rows are said of the kind and the approximation that a kind byte holds, and not by the setter that the check goes by.
+-- The rows are said of the second byte and of the kind and the approximation that a kind byte holds, and not by the edition and the setter
+-- that the check goes by.
 use Prim.Native.Nat.{ℕ, _%_, _/_, _≤_, _<_}
 use mathlib.Core.Path.{_≡_}
 use mathlib.Core.Bool.{true}

@@ -161,6 +161,7 @@ pub(crate) fn number_refusal(n: usize, e: usize) -> u8
     if e < n { 0 } else { 5 }
 }
 
+// The setting of entry e, or nothing where its lookup got a number.
 pub(crate) fn part_for(number: u8, n: usize, sheet: &[u8], e: usize) -> &[u8]
     requires { ⌜ (number ≡ 0 → Fits n (now sheet) × (e < n)) ⌝ }
     ensures { λ r. ⌜ now r ≡ partFor number n (now (sheet .entry)) e ⌝ }
