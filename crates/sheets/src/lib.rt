@@ -35,8 +35,8 @@ pub fn words_return()
     ensures { λ _. ⌜ WordsReturn ⌝ }
 {}
 
-// A reader of edition 1 declines whatever says edition 2, and answers all else as the reader of both does; a kind byte that both editions
-// take names one setter.
+// A reader of edition 1 declines whatever says edition 2, and answers all else as the reader of both does. Edition 2 takes what edition 1
+// takes, and a kind byte that both take names one setter.
 pub fn both_editions()
     ensures { λ _. ⌜ BothEditions ⌝ }
 {}

@@ -207,14 +207,22 @@ fn edition(sheet: &[u8]) -> u8 {
     }
 }
 
-fn check(
+fn put_part(name: &str, part: &[u8], counts: &mut Counts, to: &mut String) {
+    counts.add("calls", 1);
+    counts.add(name, 1);
+    to.push_str(name);
+    to.push(' ');
+    put_bytes(part, to);
+}
+
+// The sheet and the entry number of a line, and the number that a reader gives them. What it accepts is counted, and what it alone declines.
+fn looked_at(
     name: &str,
     by: sheets::Check,
     sheet: &[u8],
     entry: &[u8],
     counts: &mut Counts,
-    to: &mut String,
-) -> Option<()> {
+) -> Option<(Vec<u8>, u64, u8)> {
     let (sheet, entry) = (bytes(sheet)?, number(entry)?);
     let refusal = sheets::check_entry(by, &sheet, entry);
     if refusal == 0 {
@@ -222,31 +230,7 @@ fn check(
     } else if sheets::check_entry(sheets::check, &sheet, entry) == 0 {
         counts.add(&format!("{name} declines edition 2"), 1);
     }
-    numbered(name, refusal, counts, to);
-    Some(())
-}
-
-fn lookup(
-    name: &str,
-    by: sheets::Check,
-    sheet: &[u8],
-    entry: &[u8],
-    counts: &mut Counts,
-    to: &mut String,
-) -> Option<()> {
-    let (sheet, entry) = (bytes(sheet)?, number(entry)?);
-    let part = sheets::lookup(by, &sheet, entry);
-    counts.add("calls", 1);
-    counts.add(name, 1);
-    if !part.is_empty() {
-        counts.add(&format!("{name} accepted"), 1);
-    } else if sheets::check_entry(sheets::check, &sheet, entry) == 0 {
-        counts.add(&format!("{name} shows nothing of edition 2"), 1);
-    }
-    to.push_str(name);
-    to.push(' ');
-    put_bytes(part, to);
-    Some(())
+    Some((sheet, entry, refusal))
 }
 
 fn call(frame: &mut Frame, line: &[u8], counts: &mut Counts, to: &mut String) -> Option<()> {
@@ -318,13 +302,28 @@ fn call(frame: &mut Frame, line: &[u8], counts: &mut Counts, to: &mut String) ->
             to.push(' ');
             put_bytes(&out, to);
         }
-        [b"check", sheet, entry] => check("check", sheets::check, sheet, entry, counts, to)?,
-        [b"lookup", sheet, entry] => lookup("lookup", sheets::check, sheet, entry, counts, to)?,
+        [b"check", sheet, entry] => {
+            let (_, _, refusal) = looked_at("check", sheets::check, sheet, entry, counts)?;
+            numbered("check", refusal, counts, to);
+        }
         [b"check1", sheet, entry] => {
-            check("check1", sheets::check_edition_1, sheet, entry, counts, to)?
+            let by = sheets::check_edition_1;
+            let (_, _, refusal) = looked_at("check1", by, sheet, entry, counts)?;
+            numbered("check1", refusal, counts, to);
+        }
+        [b"lookup", sheet, entry] => {
+            let (sheet, entry, _) = looked_at("lookup", sheets::check, sheet, entry, counts)?;
+            put_part(
+                "lookup",
+                sheets::lookup(sheets::check, &sheet, entry),
+                counts,
+                to,
+            );
         }
         [b"lookup1", sheet, entry] => {
-            lookup("lookup1", sheets::check_edition_1, sheet, entry, counts, to)?
+            let by = sheets::check_edition_1;
+            let (sheet, entry, _) = looked_at("lookup1", by, sheet, entry, counts)?;
+            put_part("lookup1", sheets::lookup(by, &sheet, entry), counts, to);
         }
         [b"head", head] => match frame.shown(number(head)?) {
             Some(filters) => {

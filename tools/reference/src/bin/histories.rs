@@ -191,7 +191,7 @@ fn tried_enough(counts: &Counts) -> bool {
         "bad line",
         "rest of a sample that reset leaves",
         "check1 declines edition 2",
-        "lookup1 shows nothing of edition 2",
+        "lookup1 declines edition 2",
         "open of no edition",
         "open of approximation 4 in edition 1",
     ] {
