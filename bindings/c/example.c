@@ -1,5 +1,6 @@
 /* Worked examples of document 01 from C, and the refusals. Ends with 1 at the first that is not as it must be. */
 #include "motif_filters.h"
+#include "motif_sheets.h"
 
 #include <limits.h>
 #include <stdio.h>
@@ -72,6 +73,42 @@ static void takes_no_buffer(void) {
     check("all fields as they were", memcmp(state, eight, sizeof eight) == 0);
 }
 
+/* Two entries, a DC blocker and a one-pole with f = 0.25 by the approximation 4, which edition 2 alone has. */
+static void reads_a_sheet(void) {
+    uint8_t sheet[28] = {2, 2, 1, 66, 0, 0, 0, 0x3f, 0, 0, 0, 0, 0, 0, 0, 0, 0, 0, 0x80, 0x3e};
+    size_t place = 7;
+    float f;
+    check("a sheet", sheet_check(sheet, 28) == SHEET_OK);
+    check("its entry 1", sheet_lookup(sheet, 28, 1, &place) == SHEET_OK && place == 16);
+    memcpy(&f, sheet + place, sizeof f);
+    check("its frequency", f == 0.25f);
+
+    /* refused: the place stays */
+    check("no entry 2", sheet_lookup(sheet, 28, 2, &place) == SHEET_ENTRY && place == 16);
+    check("no entry of the largest number", sheet_lookup(sheet, 28, SIZE_MAX, &place) == SHEET_ENTRY && place == 16);
+    check("a byte too few", sheet_lookup(sheet, 27, 1, &place) == SHEET_SIZE && place == 16);
+    check("no bytes", sheet_check(NULL, 0) == SHEET_SIZE && sheet_lookup(NULL, 0, 0, &place) == SHEET_SIZE && place == 16);
+    sheet[1] = 0;
+    check("no approximation 4 in edition 1", sheet_check(sheet, 28) == SHEET_KIND);
+    sheet[3] = 50;
+    check("its approximation 3", sheet_check(sheet, 28) == SHEET_OK);
+    sheet[4] = sheet[8] = 1;
+    check("a word that is not used", sheet_check(sheet, 28) == SHEET_WORD);
+    sheet[8] = 0;
+    sheet[3] = 2;
+    sheet[19] = 0xbf;
+    check("a frequency below", sheet_check(sheet, 28) == SHEET_FREQUENCY);
+    check("its lookup", sheet_lookup(sheet, 28, 0, &place) == SHEET_FREQUENCY && place == 16);
+
+    /* the kind bytes of both editions, by the table of document 01 and what 02 adds to it */
+    for (int second = 0; second <= 2; second += 2)
+        for (int kind = 0; kind < 256; kind++) {
+            const uint8_t one[15] = {1, (uint8_t)second, (uint8_t)kind};
+            int low = kind & 15, high = kind >> 4, last = low == 2 || low == 3 || low == 5 ? (second == 2 ? 4 : 3) : 0;
+            check("a kind byte", sheet_check(one, 15) == (low >= 1 && low <= 7 && high <= last ? SHEET_OK : SHEET_KIND));
+        }
+}
+
 int main(void) {
     /* S1: a DC blocker with the pole 0.5, in place */
     float dc[3], samples[3] = {1, 1, 0};
@@ -102,6 +139,7 @@ int main(void) {
     for (size_t k = 0; k < sizeof unknown / sizeof unknown[0]; k++) refuses(unknown[k], unknown[k]);
     refuses(4, 5);
     takes_no_buffer();
+    reads_a_sheet();
 
     /* Exact below 0: the negative of the value at -f, down to -0.497 */
     float up, down, naive_up[4], naive_down[4];
@@ -141,6 +179,6 @@ int main(void) {
     crossover_svf_set_f_fq(crossover, 0.5f, 0.5f);
     check("S9", crossover_svf_process(crossover, impulse, 1, one, 1, MOTIF_HIGH_PASS) == MOTIF_OK && one[0] == 0.25f);
 
-    printf("motif_filters from C: %d checks hold\n", checks);
+    printf("the filters and the sheet reader from C: %d checks hold\n", checks);
     return 0;
 }
