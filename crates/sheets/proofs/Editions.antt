@@ -1,12 +1,11 @@
 -- The two editions side by side. Assumes nothing.
-use Prim.Native.Nat.{ℕ, zero, suc, _+_, _*_, _%_, _/_, _≤_, _<_}
+use Prim.Native.Nat.{ℕ, zero, suc, _+_, _-_, _*_, _%_, _/_, _≤_, _<_}
 use mathlib.Core.Path.{_≡_, refl, sym, ap, _∙_}
 use mathlib.Core.List.{List, _∷_}
 use mathlib.Core.Logic.{_⊎_, inl, inr}
 use native.Mathlib.Omega.{arith}
-use borrow.Author.Needs.{needs}
 use borrow.Author.Tests.{ne-eqb}
-use lib.ListN.{length, getD, drop}
+use lib.ListN.{length, getD, drop, replicate}
 use lib.Seq.{drop-drop, getD-drop}
 use Rattle.filter_core.specs.Rows.{_then_}
 use Rattle.filter_core.proofs.Rows.{then-zero, below, same}
@@ -32,30 +31,13 @@ four k (suc (suc zero)) h = refl
 four k (suc (suc (suc zero))) h = refl
 four k (suc (suc (suc (suc p)))) h = absurd (omega arith)
 
+unknowns : (n k : ℕ) → getD (replicate n Unknown) k Unknown ≡ Unknown
+unknowns zero k = refl
+unknowns (suc n) zero = refl
+unknowns (suc n) (suc k) = unknowns n k
+
 past-four : (k p : ℕ) → 4 ≤ p → setterFor (approximationsIn One) k p ≡ Unknown
-past-four k zero h = absurd (omega arith)
-past-four k (suc zero) h = absurd (omega arith)
-past-four k (suc (suc zero)) h = absurd (omega arith)
-past-four k (suc (suc (suc zero))) h = absurd (omega arith)
-past-four zero (suc (suc (suc (suc p)))) h = refl
-past-four (suc zero) (suc (suc (suc (suc p)))) h = refl
-past-four (suc (suc zero)) (suc (suc (suc (suc p)))) h = refl
-past-four (suc (suc (suc zero))) (suc (suc (suc (suc p)))) h = refl
-past-four (suc (suc (suc (suc zero)))) (suc (suc (suc (suc p)))) h = refl
-past-four (suc (suc (suc (suc (suc zero))))) (suc (suc (suc (suc p)))) h = refl
-past-four (suc (suc (suc (suc (suc (suc zero)))))) (suc (suc (suc (suc p)))) h = refl
-past-four (suc (suc (suc (suc (suc (suc (suc zero))))))) (suc (suc (suc (suc p)))) h = refl
-past-four (suc (suc (suc (suc (suc (suc (suc (suc k)))))))) (suc (suc (suc (suc p)))) h = refl
-
-module _ (v : Edition) (b : ℕ) where
-  pub in-one : {s : Setter} → v ≡ One → b < 64 → s ≡ setterOf b → s ≡ setterIn v b
-  in-one e h q = rw e (q ∙ sym (four (b % 16) (b / 16) (omega arith)))
-
-  pub not-in-one : v ≡ One → 64 ≤ b → Unknown ≡ setterIn v b
-  not-in-one e h = rw e (sym (past-four (b % 16) (b / 16) (omega arith)))
-
-  pub in-two : {s : Setter} → v ≡ Two → s ≡ setterOf b → s ≡ setterIn v b
-  in-two e q = rw e q
+past-four k p h = let e : p ≡ suc (suc (suc (suc (p - 4)))) = omega arith in rw e (unknowns 8 k)
 
 -- a byte that an edition takes names the setter that a load goes by
 one-setter : (v : Edition) (b : ℕ) → kindRefusal (setterIn v b) ≡ 0 → setterIn v b ≡ setterOf b
@@ -141,5 +123,3 @@ both-editions =
       raised = λ n r h. raised n r h;
       one-setter = λ b z. one-setter One b z;
     }
-
-pub ruleset setters = (in-one, not-in-one, in-two, needs)

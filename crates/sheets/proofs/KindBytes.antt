@@ -1,86 +1,92 @@
--- The kind bytes: what an arm of the match on one knows, and that every other byte names no setter. Assumes nothing.
-use Prim.Native.Nat.{ℕ, zero, suc, _<_}
-use mathlib.Core.Path.{_≡_, refl}
-use mathlib.Core.Bool.{Bool, true, false, _||_, _&&_}
-use mathlib.Core.List.{List, [], _∷_}
-use mathlib.Core.Logic.{_⊎_, inl, inr, ⊎-elim}
+-- A kind byte, judged by the limits of its halves. Assumes nothing.
+use Prim.Native.Nat.{ℕ, zero, suc, _-_, _%_, _/_, _≤_, _<_}
+use mathlib.Core.Path.{_≡_, refl, sym, _∙_}
+use mathlib.Core.List.{List, [], _∷_, map}
 use native.Mathlib.Omega.{arith}
 use borrow.Author.Needs.{needs}
-use borrow.Author.Tests.{eqb-true, eqb-false}
-use lib.Dec.{T, eqb}
-use mir.Val.{hasKey}
-use types.Run.{OneOf, hit}
-use Rattle.sheets.specs.Kind.{setterOf, kindRefusal}
+use lib.ListN.{length, getD, length-map, List·getD-eq-default}
+use Rattle.filter_core.specs.declared.FrequencyApproximation.{FrequencyApproximation}
+use Rattle.filter_core.specs.declared.FrequencyApproximation.the-variants.{Exact, Series}
+use Rattle.sheets.specs.Edition.{approximationsIn}
+use Rattle.sheets.specs.Kind.{approximated, exact, setterFor, setterIn}
+use Rattle.sheets.specs.declared.edition.Edition.{Edition}
+use Rattle.sheets.specs.declared.edition.Edition.the-variants.{One, Two}
 use Rattle.sheets.specs.declared.setter.Setter.{Setter}
 use Rattle.sheets.specs.declared.setter.Setter.the-variants.{DcBlocker, OnePole, SvfFrequency, SvfCoefficients, NaiveSvf, ModifiedSvf, CrossoverSvf, Unknown}
 
--- ---- an arm: the byte is its key, or the first of its keys, or a later one
-pub one : {s : Setter} (x k : ℕ) → x ≡ k → s ≡ setterOf k → s ≡ setterOf x
-one {s} x k o e = rw o e
+-- up to the approximation l there is the setter s, past it there is none
+abbrev UpTo : ℕ → (ℕ → Setter) → (ℕ → Setter) → Type 0
+UpTo l s of = (p : ℕ) → (p ≤ l → of p ≡ s p) × (l < p → of p ≡ Unknown)
 
-pub more : {s : Setter} (x k : ℕ) {P : Type 0} → (x ≡ k) ⊎ P → s ≡ setterOf k → (P → s ≡ setterOf x) → s ≡ setterOf x
-more {s} x k (inl o) e r = rw o e
-more {s} x k (inr o) e r = r o
+within : (s : FrequencyApproximation → Setter) (ps : List FrequencyApproximation) (p : ℕ) → p < length ps → approximated ps s p ≡ s (getD ps p Series)
+within s [] p h = absurd (omega arith)
+within s (q ∷ ps) zero h = refl
+within s (q ∷ ps) (suc p) h = within s ps p (omega arith)
 
--- ---- the ranges: the byte is no key of any arm
+of-list : (s : FrequencyApproximation → Setter) (ps : List FrequencyApproximation) (l : ℕ) → length ps ≡ suc l → UpTo l (λ p. s (getD ps p Series)) (approximated ps s)
+of-list s ps l e p = (λ h. within s ps p (omega arith), λ h. List·getD-eq-default (map s ps) Unknown (omega (arith, length-map ps s)))
 
--- as the match tells it, arm by arm
-abbrev Rest : Type 0 → List (List ℕ) → ℕ → Type 0
-Rest N [] x = N
-Rest N (ks ∷ arms) x = Rest (N × (OneOf ks x → ⊥)) arms x
+of-exact : (s : Setter) → UpTo 0 (λ p. s) (exact s)
+of-exact s = of-list (λ q. s) (Exact ∷ []) 0 refl
 
-first : (N : Type 0) (arms : List (List ℕ)) (x : ℕ) → Rest N arms x → N
-first N [] x r = r
-first N (ks ∷ arms) x r = first (N × (OneOf ks x → ⊥)) arms x r .0
+-- l is the last approximation that the kind k takes
+abbrev Last : Edition → ℕ → ℕ → Type 0
+Last v k l = UpTo l (λ p. setterFor (getD (approximationsIn v) p Series ∷ []) k 0) (setterFor (approximationsIn v) k)
 
-abbrev keyed : List (List ℕ) → ℕ → Bool
-keyed [] x = false
-keyed (ks ∷ arms) x = hasKey ks x || keyed arms x
+module _ (v : Edition) where
+  pub kind-1 : (k : ℕ) → k ≡ 1 → Last v k 0
+  kind-1 k e = rw e (of-exact DcBlocker)
 
-either : (a b : Bool) → T (a || b) → T a ⊎ T b
-either true b t = inl tt
-either false b t = inr t
+  pub kind-4 : (k : ℕ) → k ≡ 4 → Last v k 0
+  kind-4 k e = rw e (of-exact SvfCoefficients)
 
-none : (N : Type 0) (arms : List (List ℕ)) (x : ℕ) → Rest N arms x → T (keyed arms x) → ⊥
-none N [] x r t = t
-none N (ks ∷ arms) x r t =
-    let M : Type 0 = N × (OneOf ks x → ⊥) in
-    ⊎-elim (λ h. first M arms x r .1 (hit ks x h)) (λ h. none M arms x r h) (either (hasKey ks x) (keyed arms x) t)
+  high : (k : ℕ) → k < 2 → Last v (suc (suc (suc (suc (suc (suc k)))))) 0
+  high zero h = of-exact ModifiedSvf
+  high (suc zero) h = of-exact CrossoverSvf
+  high (suc (suc k)) h = absurd (omega arith)
 
-abbrev unknown : Setter → Bool
-unknown s = eqb (kindRefusal s) 3
+  pub kinds-6-7 : (k : ℕ) → 5 < k → k < 8 → Last v k 0
+  kinds-6-7 k h g = let e : k ≡ suc (suc (suc (suc (suc (suc (k - 6)))))) = omega arith in rw e (high (k - 6) (omega arith))
 
-is-unknown : (s : Setter) → T (unknown s) → Unknown ≡ s
-is-unknown DcBlocker t = absurd t
-is-unknown (OnePole p) t = absurd t
-is-unknown (SvfFrequency p) t = absurd t
-is-unknown SvfCoefficients t = absurd t
-is-unknown (NaiveSvf p) t = absurd t
-is-unknown ModifiedSvf t = absurd t
-is-unknown CrossoverSvf t = absurd t
-is-unknown Unknown t = refl
+  pub kinds-2-3-5 : (k l : ℕ) → length (approximationsIn v) ≡ suc l → 2 ≤ k → (k ≡ 4 → ⊥) → k ≤ 5 → Last v k l
+  kinds-2-3-5 zero l e x y z = absurd (omega arith)
+  kinds-2-3-5 (suc zero) l e x y z = absurd (omega arith)
+  kinds-2-3-5 (suc (suc zero)) l e x y z = of-list OnePole (approximationsIn v) l e
+  kinds-2-3-5 (suc (suc (suc zero))) l e x y z = of-list SvfFrequency (approximationsIn v) l e
+  kinds-2-3-5 (suc (suc (suc (suc zero)))) l e x y z = absurd (y refl)
+  kinds-2-3-5 (suc (suc (suc (suc (suc zero))))) l e x y z = of-list NaiveSvf (approximationsIn v) l e
+  kinds-2-3-5 (suc (suc (suc (suc (suc (suc k)))))) l e x y z = absurd (omega arith)
 
--- a test that passes at each number below n
-abbrev every : (ℕ → Bool) → ℕ → Bool
-every f zero = true
-every f (suc n) = f n && every f n
+-- both editions number the approximations alike
+numbered : (v : Edition) (n : ℕ) → getD (approximationsIn Two) n Series ≡ getD (approximationsIn v) n Series
+numbered Two n = refl
+numbered One zero = refl
+numbered One (suc zero) = refl
+numbered One (suc (suc zero)) = refl
+numbered One (suc (suc (suc zero))) = refl
+numbered One (suc (suc (suc (suc zero)))) = refl
+numbered One (suc (suc (suc (suc (suc n))))) = refl
 
-both : (a b : Bool) → T (a && b) → T a × T b
-both true b t = (tt, t)
-both false b t = absurd t
+series : (n : ℕ) → Series ≡ getD (Series ∷ []) n Series
+series zero = refl
+series (suc n) = refl
 
-below : (f : ℕ → Bool) (n k : ℕ) → T (every f n) → k < n → T (f k)
-below f zero k t h = absurd (omega arith)
-below f (suc n) k t h = go (both (f n) (every f n) t) (λ u. below f n k u) (eqb k n) refl
-  where
-    go : T (f n) × T (every f n) → (T (every f n) → k < n → T (f k)) → (b : Bool) → eqb k n ≡ b → T (f k)
-    go p r true q = rw (eqb-true k n q) (p .0)
-    go p r false q = r (p .1) (omega (arith, eqb-false k n q))
+pub past-dirty : (n : ℕ) → 4 ≤ n → Series ≡ getD (approximationsIn Two) n Series
+past-dirty n h = let e : n ≡ suc (suc (suc (suc (n - 4)))) = omega arith in rw e (series (n - 4))
 
--- a byte that is no key of an arm names no setter: one test of all 256, which antt computes
-pub otherwise : (arms : List (List ℕ)) → T (every (λ k. keyed arms k || unknown (setterOf k)) 256) → (x : ℕ) → x < 256 → Rest Unit arms x → Unknown ≡ setterOf x
-otherwise arms t x h r =
-    ⊎-elim (λ k. absurd (none Unit arms x r k)) (λ k. is-unknown (setterOf x) k)
-    (either (keyed arms x) (unknown (setterOf x)) (below (λ k. keyed arms k || unknown (setterOf k)) 256 x t h))
+-- ---- the byte by its halves
+module _ (v : Edition) (b : ℕ) where
+  pub no-kind : b % 16 < 1 → Unknown ≡ setterIn v b
+  no-kind h = let e : b % 16 ≡ 0 = omega arith in rw e refl
 
-pub ruleset kinds = (one, more, needs)
+  pub past-kinds : 7 < b % 16 → Unknown ≡ setterIn v b
+  past-kinds h = let e : b % 16 ≡ suc (suc (suc (suc (suc (suc (suc (suc (b % 16 - 8)))))))) = omega arith in rw e refl
+
+  pub past-last : {l : ℕ} → Last v (b % 16) l → l < b / 16 → Unknown ≡ setterIn v b
+  past-last u h = sym (u (b / 16) .1 h)
+
+  pub up-to-last : {l : ℕ} {q : FrequencyApproximation} {s : Setter} →
+      Last v (b % 16) l → b / 16 ≤ l → q ≡ getD (approximationsIn Two) (b / 16) Series → s ≡ setterFor (q ∷ []) (b % 16) 0 → s ≡ setterIn v b
+  up-to-last u h i j = j ∙ rw (i, numbered v (b / 16)) (sym (u (b / 16) .0 h))
+
+pub ruleset halves = (past-last, up-to-last, needs)

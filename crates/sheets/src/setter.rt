@@ -1,7 +1,14 @@
 // Which setter an entry's kind byte names, and with which approximation.
 
 ghost use mathlib.Core.Path.{_≡_};
-ghost use Rattle.sheets.specs.Kind.{setterIn, setterOf};
+ghost use Prim.Native.Nat.{ℕ, suc, _≤_, _<_};
+ghost use mathlib.Core.List.{[], _∷_};
+ghost use lib.ListN.{length, getD};
+ghost use Rattle.filter_core.specs.declared.FrequencyApproximation.the-variants.{Series};
+ghost use Rattle.sheets.specs.Edition.{approximationsIn};
+ghost use Rattle.sheets.specs.Kind.{setterFor, setterIn, setterOf};
+ghost use Rattle.sheets.specs.declared.edition.Edition.the-variants.{Two};
+ghost use Rattle.sheets.specs.declared.setter.Setter.the-variants.{Unknown};
 use crate::edition::Edition;
 use filter_core::FrequencyApproximation;
 
@@ -16,44 +23,86 @@ pub enum Setter {
     Unknown,
 }
 
-// A kind byte is kind + 16 * approximation. This table, edition 2's, says which of them name a setter, and which one.
-pub fn setter_of(kind: u8) -> Setter
-    ensures { λ r. ⌜ r ≡ setterOf kind ⌝ }
+// ---- whether an edition has a kind with an approximation (02 d): both are compared with limits
+
+fn last_approximation(edition: Edition) -> u8
+    ensures { λ r. ⌜ length (approximationsIn edition) ≡ suc r ⌝ }
 {
-    match kind {
-        1 => Setter::DcBlocker,
-        2 => Setter::OnePole(FrequencyApproximation::Exact),
-        3 => Setter::SvfFrequency(FrequencyApproximation::Exact),
-        4 => Setter::SvfCoefficients,
-        5 => Setter::NaiveSvf(FrequencyApproximation::Exact),
-        6 => Setter::ModifiedSvf,
-        7 => Setter::CrossoverSvf,
-        18 => Setter::OnePole(FrequencyApproximation::Accurate),
-        19 => Setter::SvfFrequency(FrequencyApproximation::Accurate),
-        21 => Setter::NaiveSvf(FrequencyApproximation::Accurate),
-        34 => Setter::OnePole(FrequencyApproximation::Fast),
-        35 => Setter::SvfFrequency(FrequencyApproximation::Fast),
-        37 => Setter::NaiveSvf(FrequencyApproximation::Fast),
-        50 => Setter::OnePole(FrequencyApproximation::Dirty),
-        51 => Setter::SvfFrequency(FrequencyApproximation::Dirty),
-        53 => Setter::NaiveSvf(FrequencyApproximation::Dirty),
-        66 => Setter::OnePole(FrequencyApproximation::Series),
-        67 => Setter::SvfFrequency(FrequencyApproximation::Series),
-        69 => Setter::NaiveSvf(FrequencyApproximation::Series),
-        0 | 8..=17 | 20 | 22..=33 | 36 | 38..=49 | 52 | 54..=65 | 68 | 70..=255 => Setter::Unknown,
+    match edition {
+        Edition::One => 3,
+        Edition::Two => 4,
     }
 }
 
-// The same in a sheet of an edition: edition 1 has the approximations 0 to 3 only.
+// The last approximation that a kind takes: 2, 3 and 5 take all that the edition has, the others 0 alone. Up to it the kind has its setter,
+// past it there is none.
+fn last_for_kind(edition: Edition, kind: u8) -> u8
+    requires { ⌜ (0 < kind) × (kind < 8) ⌝ }
+    ensures { λ r. ⌜ ((p : ℕ) → (p ≤ r → setterFor (approximationsIn edition) kind p ≡ setterFor (getD (approximationsIn edition) p Series ∷ []) kind 0)
+        × (r < p → setterFor (approximationsIn edition) kind p ≡ Unknown)) ⌝ }
+{
+    if kind < 2 {
+        return 0;
+    }
+    if kind == 4 {
+        return 0;
+    }
+    if 5 < kind {
+        return 0;
+    }
+    last_approximation(edition)
+}
+
+// ---- which setter that is: a choice among what the limits let through
+
+fn approximation_of(n: u8) -> FrequencyApproximation
+    ensures { λ r. ⌜ r ≡ getD (approximationsIn Two) n Series ⌝ }
+{
+    match n {
+        0 => FrequencyApproximation::Exact,
+        1 => FrequencyApproximation::Accurate,
+        2 => FrequencyApproximation::Fast,
+        3 => FrequencyApproximation::Dirty,
+        _ => FrequencyApproximation::Series,
+    }
+}
+
+fn setter_for(kind: u8, approximation: FrequencyApproximation) -> Setter
+    requires { ⌜ (0 < kind) × (kind < 8) ⌝ }
+    ensures { λ r. ⌜ r ≡ setterFor (approximation ∷ []) kind 0 ⌝ }
+{
+    match kind {
+        1 => Setter::DcBlocker,
+        2 => Setter::OnePole(approximation),
+        3 => Setter::SvfFrequency(approximation),
+        4 => Setter::SvfCoefficients,
+        5 => Setter::NaiveSvf(approximation),
+        6 => Setter::ModifiedSvf,
+        _ => Setter::CrossoverSvf,
+    }
+}
+
+// ---- a kind byte: its low half is the kind, its high half the approximation
+
 pub fn setter_in(edition: Edition, kind: u8) -> Setter
     ensures { λ r. ⌜ r ≡ setterIn edition kind ⌝ }
 {
-    match edition {
-        Edition::One => if kind < 64 {
-            setter_of(kind)
-        } else {
-            Setter::Unknown
-        },
-        Edition::Two => setter_of(kind),
+    let low = kind % 16;
+    let high = kind / 16;
+    if low < 1 {
+        return Setter::Unknown;
     }
+    if 7 < low {
+        return Setter::Unknown;
+    }
+    if last_for_kind(edition, low) < high {
+        return Setter::Unknown;
+    }
+    setter_for(low, approximation_of(high))
+}
+
+pub fn setter_of(kind: u8) -> Setter
+    ensures { λ r. ⌜ r ≡ setterOf kind ⌝ }
+{
+    setter_in(Edition::Two, kind)
 }

@@ -1,6 +1,16 @@
-use Rattle.sheets.proofs.Editions.{setters}
+use native.Mathlib.Omega.{arith}
+use Rattle.sheets.proofs.KindBytes.{no-kind, past-kinds, halves}
 use Rattle.sheets.proofs.setter.setter_in.Statement.{statement}
 use Rattle.sheets.proofs.setter.setter_in.Tie as tie
 
 pub setter-in-spec : {M : Type 1} → statement M
-setter-in-spec = tie.close (tie.spec (λ c. search setters) (λ c κs. search setters) (λ c. search setters) (λ c κs. search setters) (λ c. search setters) (λ c. search setters) (λ c. search setters))
+setter-in-spec =
+    tie.close
+    (tie.spec
+    (λ c. let a = c .before .args in no-kind (a .edition) (a .kind) (omega (arith, c .if1 .taken)))
+    (λ c. let a = c .before .before .args in past-kinds (a .edition) (a .kind) (omega (arith, c .if2 .taken)))
+    (λ c κs. search halves)
+    (λ c. search halves)
+    (λ c κs. search halves)
+    (λ c κs. search halves)
+    (λ c. search halves))
