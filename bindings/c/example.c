@@ -79,24 +79,32 @@ static void reads_a_sheet(void) {
     size_t place = 7;
     float f;
     check("a sheet", sheet_check(sheet, 28) == SHEET_OK);
+
+    /* refused: the place stays */
+    check("no entry 2", sheet_lookup(sheet, 28, 2, &place) == SHEET_ENTRY && place == 7);
+    check("no entry of the largest number", sheet_lookup(sheet, 28, SIZE_MAX, &place) == SHEET_ENTRY && place == 7);
+    check("a byte too few", sheet_check(sheet, 27) == SHEET_SIZE && sheet_lookup(sheet, 27, 1, &place) == SHEET_SIZE && place == 7);
+    check("no bytes", sheet_check(NULL, 0) == SHEET_SIZE && sheet_lookup(NULL, 0, 0, &place) == SHEET_SIZE && place == 7);
+
+    check("its entry 0", sheet_lookup(sheet, 28, 0, &place) == SHEET_OK && place == 4);
     check("its entry 1", sheet_lookup(sheet, 28, 1, &place) == SHEET_OK && place == 16);
     memcpy(&f, sheet + place, sizeof f);
     check("its frequency", f == 0.25f);
 
-    /* refused: the place stays */
-    check("no entry 2", sheet_lookup(sheet, 28, 2, &place) == SHEET_ENTRY && place == 16);
-    check("no entry of the largest number", sheet_lookup(sheet, 28, SIZE_MAX, &place) == SHEET_ENTRY && place == 16);
-    check("a byte too few", sheet_lookup(sheet, 27, 1, &place) == SHEET_SIZE && place == 16);
-    check("no bytes", sheet_check(NULL, 0) == SHEET_SIZE && sheet_lookup(NULL, 0, 0, &place) == SHEET_SIZE && place == 16);
     sheet[1] = 0;
     check("no approximation 4 in edition 1", sheet_check(sheet, 28) == SHEET_KIND);
     sheet[3] = 50;
     check("its approximation 3", sheet_check(sheet, 28) == SHEET_OK);
-    sheet[4] = sheet[8] = 1;
+    sheet[8] = 1;
     check("a word that is not used", sheet_check(sheet, 28) == SHEET_WORD);
     sheet[8] = 0;
+    memcpy(sheet + 4, "\1\0\300\177", 4);
+    check("another NaN", sheet_check(sheet, 28) == SHEET_WORD);
+    sheet[4] = 0;
+    check("the one NaN", sheet_check(sheet, 28) == SHEET_OK);
+    memcpy(sheet + 16, &(float){-0.5f}, 4);
+    check("no frequency is refused but in Exact", sheet_check(sheet, 28) == SHEET_OK);
     sheet[3] = 2;
-    sheet[19] = 0xbf;
     check("a frequency below", sheet_check(sheet, 28) == SHEET_FREQUENCY);
     check("its lookup", sheet_lookup(sheet, 28, 0, &place) == SHEET_FREQUENCY && place == 16);
 

@@ -5,8 +5,10 @@
  *
  * A call answers SHEET_OK or the number of what is wrong first. A refused call changes nothing.
  *
- * What the proofs take for granted, and no call checks: a pointer leads to memory that is there, `sheet` to as many bytes as its length
- * says, and `place` is aligned for a size_t and no part of the sheet. A sheet whose length is 0 may be NULL.
+ * What the proofs take for granted, and no call checks:
+ * - `sheet` leads to as many bytes as its length says; where that is 0 it may be NULL.
+ * - `place` leads to a size_t, aligned for it, that is no part of the sheet. It is never NULL, not even where the call is refused. It is
+ *   only written, so it may be uninitialized.
  */
 #ifndef MOTIF_SHEETS_H
 #define MOTIF_SHEETS_H
@@ -24,17 +26,18 @@ extern "C" {
 
 enum {
     SHEET_OK = 0,
-    SHEET_SIZE = 2,      /* no sheet by its first two bytes and its length */
-    SHEET_KIND = 3,      /* an entry's kind is not there, or does not take its approximation */
-    SHEET_WORD = 4,      /* an entry's word is unused and not 0, or a NaN other than 7FC00000 */
+    SHEET_SIZE = 2,      /* the second byte is neither 0 nor 2, n not 1 to 64, or the length not 2 + 13 n */
+    SHEET_KIND = 3,      /* an entry's kind is not 1 to 7, or does not take this approximation in this edition */
+    SHEET_WORD = 4,      /* an entry's word is unused and not all zero bits, or a NaN other than 7FC00000 */
     SHEET_ENTRY = 5,     /* no entry has this number */
-    SHEET_FREQUENCY = 11 /* an entry's frequency is below -0.497 in Exact */
+    SHEET_FREQUENCY = 11 /* an entry of kind 2, 3 or 5 has a frequency below -0.497 in Exact */
 };
 
 /* Whether the bytes are a sheet. */
 uint8_t sheet_check(const uint8_t *sheet, size_t sheet_length);
 
-/* Where the setting of entry e stands: its 12 bytes begin at sheet + *place. What sheet_check refuses is refused with its number. */
+/* Where the setting of entry e stands: three binary32 words, low byte first, which begin at sheet + *place. Its kind byte is sheet[2 + e].
+ * What sheet_check refuses is refused with its number. */
 uint8_t sheet_lookup(const uint8_t *sheet, size_t sheet_length, size_t e, size_t *place);
 
 #ifdef __cplusplus

@@ -5,7 +5,7 @@ use mathlib.Core.List.{List, _∷_}
 use mathlib.Core.Logic.{_⊎_, inl, inr}
 use native.Mathlib.Omega.{arith}
 use borrow.Author.Tests.{ne-eqb}
-use lib.ListN.{length, getD, drop, replicate}
+use lib.ListN.{length, getD, drop}
 use lib.Seq.{drop-drop, getD-drop}
 use Rattle.filter_core.specs.Rows.{_then_}
 use Rattle.filter_core.proofs.Rows.{then-zero, below, same}
@@ -18,8 +18,8 @@ use Rattle.sheets.specs.Editions.{Declined, Agreed, Found, Raised, BothE
 use Rattle.sheets.specs.declared.edition.Edition.{Edition}
 use Rattle.sheets.specs.declared.edition.Edition.the-variants.{One, Two}
 use Rattle.sheets.specs.declared.entry.Entry.{Entry}
-use Rattle.sheets.specs.declared.setter.Setter.{Setter}
 use Rattle.sheets.specs.declared.setter.Setter.the-variants.{Unknown}
+use Rattle.sheets.proofs.KindBytes.{unknowns}
 use Rattle.sheets.proofs.Checks.{first-all, first-each, too-many}
 
 -- ---- the setters of edition 1: those of edition 2 up to approximation 3, and no other
@@ -30,11 +30,6 @@ four k (suc zero) h = refl
 four k (suc (suc zero)) h = refl
 four k (suc (suc (suc zero))) h = refl
 four k (suc (suc (suc (suc p)))) h = absurd (omega arith)
-
-unknowns : (n k : ℕ) → getD (replicate n Unknown) k Unknown ≡ Unknown
-unknowns zero k = refl
-unknowns (suc n) zero = refl
-unknowns (suc n) (suc k) = unknowns n k
 
 past-four : (k p : ℕ) → 4 ≤ p → setterFor (approximationsIn One) k p ≡ Unknown
 past-four k p h = let e : p ≡ suc (suc (suc (suc (p - 4)))) = omega arith in rw e (unknowns 8 k)

@@ -1,8 +1,10 @@
 // Which setter an entry's kind byte names, and with which approximation.
 
 ghost use mathlib.Core.Path.{_≡_};
-ghost use Prim.Native.Nat.{ℕ, suc, _≤_, _<_};
+ghost use Prim.Native.Nat.{ℕ, suc, _<_};
+ghost use mathlib.Core.Bool.{cond};
 ghost use mathlib.Core.List.{[], _∷_};
+ghost use lib.Dec.{ltb};
 ghost use lib.ListN.{length, getD};
 ghost use Rattle.filter_core.specs.declared.FrequencyApproximation.the-variants.{Series};
 ghost use Rattle.sheets.specs.Edition.{approximationsIn};
@@ -23,10 +25,12 @@ pub enum Setter {
     Unknown,
 }
 
-// ---- whether an edition has a kind with an approximation (02 d): both are compared with limits
+// ---- the limits of a kind byte's high half (02 d)
 
+// The last approximation that an edition has.
 fn last_approximation(edition: Edition) -> u8
     ensures { λ r. ⌜ length (approximationsIn edition) ≡ suc r ⌝ }
+    ensures { λ r. ⌜ r < 5 ⌝ }
 {
     match edition {
         Edition::One => 3,
@@ -34,12 +38,13 @@ fn last_approximation(edition: Edition) -> u8
     }
 }
 
-// The last approximation that a kind takes: 2, 3 and 5 take all that the edition has, the others 0 alone. Up to it the kind has its setter,
-// past it there is none.
+// The last that a kind takes: 2, 3 and 5 take all that the edition has, the others 0 alone. Past it there is no setter, up to it the kind's,
+// which `setterFor` has of a list with that approximation alone.
 fn last_for_kind(edition: Edition, kind: u8) -> u8
-    requires { ⌜ (0 < kind) × (kind < 8) ⌝ }
-    ensures { λ r. ⌜ ((p : ℕ) → (p ≤ r → setterFor (approximationsIn edition) kind p ≡ setterFor (getD (approximationsIn edition) p Series ∷ []) kind 0)
-        × (r < p → setterFor (approximationsIn edition) kind p ≡ Unknown)) ⌝ }
+    requires { ⌜ 0 < kind ⌝ }
+    ensures { λ r. ⌜ ((p : ℕ) → setterFor (approximationsIn edition) kind p
+        ≡ cond (ltb r p) Unknown (setterFor (getD (approximationsIn edition) p Series ∷ []) kind 0)) ⌝ }
+    ensures { λ r. ⌜ r < 5 ⌝ }
 {
     if kind < 2 {
         return 0;
@@ -53,9 +58,10 @@ fn last_for_kind(edition: Edition, kind: u8) -> u8
     last_approximation(edition)
 }
 
-// ---- which setter that is: a choice among what the limits let through
+// ---- the choice of what the limits let through: the last arm is the last case
 
 fn approximation_of(n: u8) -> FrequencyApproximation
+    requires { ⌜ n < 5 ⌝ }
     ensures { λ r. ⌜ r ≡ getD (approximationsIn Two) n Series ⌝ }
 {
     match n {
@@ -101,6 +107,7 @@ pub fn setter_in(edition: Edition, kind: u8) -> Setter
     setter_for(low, approximation_of(high))
 }
 
+// As a load asks for it: by edition 2, where a byte of edition 1 means the same.
 pub fn setter_of(kind: u8) -> Setter
     ensures { λ r. ⌜ r ≡ setterOf kind ⌝ }
 {

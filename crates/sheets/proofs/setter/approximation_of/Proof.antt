@@ -1,6 +1,5 @@
-use mathlib.Core.Path.{refl}
+use mathlib.Core.Path.{_≡_, refl}
 use native.Mathlib.Omega.{arith}
-use Rattle.sheets.proofs.KindBytes.{past-dirty}
 use Rattle.sheets.proofs.setter.approximation_of.Statement.{statement}
 use Rattle.sheets.proofs.setter.approximation_of.Tie as tie
 
@@ -12,4 +11,7 @@ approximation-of-spec =
     (λ c. rw (c .match .keys2) refl)
     (λ c. rw (c .match .keys3) refl)
     (λ c. rw (c .match .keys4) refl)
-    (λ c. let r = c .match .rest in past-dirty (c .before .args .n) (omega (arith, r .1, r .0 .1, r .0 .0 .1, r .0 .0 .0 .1))))
+    (λ c.
+    let r = c .match .rest in
+    let e : c .before .args .n ≡ 4 = omega (arith, c .before .pre, r .1, r .0 .1, r .0 .0 .1, r .0 .0 .0 .1) in
+    rw e refl))
