@@ -1,4 +1,4 @@
-/* Worked examples of document 01 from C, and the refusals. Ends with 1 at the first that is not as it must be. */
+/* Worked examples of document 01 from C, the refusals, and sheets read. Ends with 1 at the first that is not as it must be. */
 #include "motif_filters.h"
 #include "motif_sheets.h"
 

@@ -46,15 +46,15 @@ unknowns zero k = refl
 unknowns (suc n) zero = refl
 unknowns (suc n) (suc k) = unknowns n k
 
-module _ (v : Edition) where
-  pub kinds-2-3-5 : (k l : ℕ) → length (approximationsIn v) ≡ suc l → 2 ≤ k → (k ≡ 4 → ⊥) → k ≤ 5 → Last v k l
-  kinds-2-3-5 zero l e x y z = absurd (omega arith)
-  kinds-2-3-5 (suc zero) l e x y z = absurd (omega arith)
-  kinds-2-3-5 (suc (suc zero)) l e x y z = of-list OnePole (approximationsIn v) l e
-  kinds-2-3-5 (suc (suc (suc zero))) l e x y z = of-list SvfFrequency (approximationsIn v) l e
-  kinds-2-3-5 (suc (suc (suc (suc zero)))) l e x y z = absurd (y refl)
-  kinds-2-3-5 (suc (suc (suc (suc (suc zero))))) l e x y z = of-list NaiveSvf (approximationsIn v) l e
-  kinds-2-3-5 (suc (suc (suc (suc (suc (suc k)))))) l e x y z = absurd (omega arith)
+module _ (v : Edition) (l : ℕ) (e : length (approximationsIn v) ≡ suc l) where
+  pub kinds-2-3-5 : (k : ℕ) → 2 ≤ k → (k ≡ 4 → ⊥) → k ≤ 5 → Last v k l
+  kinds-2-3-5 zero x y z = absurd (omega arith)
+  kinds-2-3-5 (suc zero) x y z = absurd (omega arith)
+  kinds-2-3-5 (suc (suc zero)) x y z = of-list OnePole (approximationsIn v) l e
+  kinds-2-3-5 (suc (suc (suc zero))) x y z = of-list SvfFrequency (approximationsIn v) l e
+  kinds-2-3-5 (suc (suc (suc (suc zero)))) x y z = absurd (y refl)
+  kinds-2-3-5 (suc (suc (suc (suc (suc zero))))) x y z = of-list NaiveSvf (approximationsIn v) l e
+  kinds-2-3-5 (suc (suc (suc (suc (suc (suc k)))))) x y z = absurd (omega arith)
 
 -- both editions number the approximations alike
 numbered : (v : Edition) (n : ℕ) → getD (approximationsIn Two) n Series ≡ getD (approximationsIn v) n Series

@@ -25,7 +25,7 @@ pub enum Setter {
     Unknown,
 }
 
-// ---- the limits of a kind byte's high half (02 d)
+// ---- the limits of a kind byte's high half (02 d); that they are below 5 is for the choice behind them
 
 // The last approximation that an edition has.
 fn last_approximation(edition: Edition) -> u8

@@ -26,4 +26,4 @@ last-for-kind-spec =
     (λ c.
     let b = c .before in
     let d = b .before .before .before in
-    (kinds-2-3-5 (d .args .edition) (d .args .kind) _ (c .last-approximation .ensures .0) (omega (arith, b .before .before .if1 .left)) (λ e. omega (arith, e, b .before .if2 .left)) (omega (arith, b .if3 .left)), search needs)))
+    (kinds-2-3-5 (d .args .edition) _ (c .last-approximation .ensures .0) (d .args .kind) (omega (arith, b .before .before .if1 .left)) (λ e. omega (arith, e, b .before .if2 .left)) (omega (arith, b .if3 .left)), search needs)))
