@@ -31,7 +31,7 @@ module _ (n m : ℕ) where
   write-none : n < 1 → 2 ≡ writeRefusal n m
   write-none a = rw (lt-ltb n) refl
 
-  write-short : 1 ≤ n → n ≤ 64 → m < 2 + 13 * n → 12 ≡ writeRefusal n m
+  pub write-short : 1 ≤ n → n ≤ 64 → m < 2 + 13 * n → 12 ≡ writeRefusal n m
   write-short a b c = rw (le-ltb n, le-ltb 64, lt-ltb m) refl
 
   pub write-fits : 1 ≤ n → n ≤ 64 → 2 + 13 * n ≤ m → 0 ≡ writeRefusal n m

@@ -82,12 +82,12 @@ module _ (n : ℕ) (s t : List ℕ) (h : drop 2 s ≡ drop 2 t) (e : ℕ) where
   same-kind : kindAt s e ≡ kindAt t e
   same-kind = sym (getD-drop 2 s e 0) ∙ ap (λ (x : List ℕ). getD x e 0) h ∙ getD-drop 2 t e 0
 
-  same-setting : settingBehind n s e ≡ settingBehind n t e
+  pub same-setting : settingBehind n s e ≡ settingBehind n t e
   same-setting =
       let p : 2 + n + 12 * e ≡ 2 + (n + 12 * e) = omega arith in
       rw (p, ← drop-drop (n + 12 * e) 2 s, ← drop-drop (n + 12 * e) 2 t, h) refl
 
-  same-entry : entryAmong n s e ≡ entryAmong n t e
+  pub same-entry : entryAmong n s e ≡ entryAmong n t e
   same-entry = rw (same-kind, same-setting) refl
 
 taken-in-two : (t : Entry) → entryRefusal One t ≡ 0 → entryRefusal Two t ≡ 0

@@ -17,13 +17,13 @@ use Rattle.sheets.proofs.EntryRows.{entry-row}
 
 -- ---- the entries: all of the first n are right, or there is a first that is not
 
-record Wrong (f : ℕ → ℕ) (n : ℕ) : Type 0 where
-  place : ℕ
-  inside : place < n
-  before : (i : ℕ) → i < place → f i ≡ 0
-  some : f place ≡ 0 → ⊥
+pub record Wrong (f : ℕ → ℕ) (n : ℕ) : Type 0 where
+  pub place : ℕ
+  pub inside : place < n
+  pub before : (i : ℕ) → i < place → f i ≡ 0
+  pub some : f place ≡ 0 → ⊥
 
-scan : (f : ℕ → ℕ) (n : ℕ) → ((i : ℕ) → i < n → f i ≡ 0) ⊎ Wrong f n
+pub scan : (f : ℕ → ℕ) (n : ℕ) → ((i : ℕ) → i < n → f i ≡ 0) ⊎ Wrong f n
 scan f zero = inl (λ i l. absurd (omega arith))
 scan f (suc n) = go (scan f n) (eqb (f n) 0) refl
   where

@@ -1,0 +1,142 @@
+-- What a conversion makes of a sheet, and that it can be undone. Assumes nothing.
+use Prim.Native.Nat.{ℕ, _≤_, _<_}
+use mathlib.Core.Path.{_≡_, refl, sym, ap, _∙_}
+use mathlib.Core.List.{List}
+use mathlib.Core.Logic.{_⊎_, inl, inr}
+use native.Mathlib.Omega.{arith}
+use borrow.Author.Tests.{ne-eqb}
+use lib.ListN.{length, getD, take, drop}
+use lib.Seq.{take-append-seam}
+use Rattle.filter_core.proofs.Rows.{below, exactly}
+use Rattle.lists.proofs.Over.{over-none, over-all}
+use Rattle.sheets.specs.Sheet.{entriesOf, editionIn, Fits, checkEntryOf, lookupOf}
+use Rattle.sheets.specs.Rows.{Sheet}
+use Rattle.sheets.specs.declared.edition.Edition.{Edition}
+use Rattle.sheets.specs.declared.edition.Edition.the-variants.{One}
+use Rattle.sheets.proofs.Editions.{both-editions}
+use Rattle.sheets.proofs.Rows.{check-sheet, sheet-check}
+use Rattle.library.specs.Library.{libraryOf}
+use Rattle.library.specs.declared.Written.{Written}
+use Rattle.library.proofs.RoundTrip.{rewritten}
+use Rattle.library.proofs.Rows.{write-short}
+use Rattle.conversion.specs.Conversion.{inEdition, convertRefusal, convertOf, convertedOf}
+use Rattle.conversion.specs.Rows.{UsesFour}
+use Rattle.conversion.specs.Converted.{converted, Writes, OldReader, Converted, inLibrary, AsWrite, Conversions}
+use Rattle.conversion.proofs.Steps.{is-sheet, has-room}
+use Rattle.conversion.proofs.Rows.{up, down, told-four, tells-four, too-short, accepted}
+use Rattle.conversion.proofs.Moved.{length-in, entries-in, behind-in, setting-in, entry-in, byte-in, edition-in, long, sheet-in, in-back, in-own, one-has-no-four, no-four-in}
+
+-- a sheet that the edition v has all of: it uses approximation 4 nowhere, or v has it
+abbrev Has : Edition → List ℕ → Type 0
+Has v s = v ≡ One → UsesFour s → ⊥
+
+has-of : (v : Edition) (s : List ℕ) (m : ℕ) → Sheet s → (convertRefusal v s m ≡ 15 → ⊥) → Has v s
+has-of v s m h n p u = n (rw p (tells-four s m h u))
+
+-- ---- what is written
+
+-- where a sheet has room and its edition has all of it
+writes : (v : Edition) (s out : List ℕ) → Sheet s → Has v s → length s ≤ length out → Writes v s out (inEdition v s)
+writes v s out h d r =
+    let z = accepted s (length out) h v d r in
+    let l = length-in v s in
+    record { answer = rw (z, l) refl; bytes = rw z (over-all (inEdition v s) out (omega arith)) }
+
+copied : (s out : List ℕ) → Sheet s → length s ≤ length out → Writes (editionIn s) s out s
+copied s out h r = rw (in-own s (h .size)) at (writes (editionIn s) s out h (one-has-no-four s h) r)
+
+refused : (v : Edition) (s out : List ℕ) → (convertOf v s out .number ≡ 0 → ⊥) → convertedOf v s out ≡ out
+refused v s out z = rw (ne-eqb (convertRefusal v s (length out)) 0 z) refl
+
+-- ---- the sheet in the edition v
+module _ (v : Edition) (s : List ℕ) (h : Sheet s) (d : Has v s) where
+  abbrev new : List ℕ
+  new = inEdition v s
+
+  is-in : Sheet new
+  is-in = sheet-in v s h d
+
+  back : (into : List ℕ) → length s ≤ length into → Writes (editionIn s) new into s
+  back into r =
+      let l = length-in v s in
+      rw (in-back v s (h .size)) at (writes (editionIn s) new into is-in (no-four-in v s h) (omega arith))
+
+  same-check : (e : ℕ) → checkEntryOf new e ≡ checkEntryOf s e
+  same-check e = rw (sheet-check new is-in, sheet-check s h, entries-in v s) refl
+
+  same-lookup : (e : ℕ) → lookupOf new e ≡ lookupOf s e
+  same-lookup e = rw (same-check e, setting-in v s e) refl
+
+  old-reader : v ≡ One → OldReader s new
+  old-reader p =
+      let b : getD new 1 0 ≡ 0 = byte-in v s (long v s h d) ∙ rw p refl in
+      let a = both-editions .agreed new (λ e. omega arith) in
+      record {
+        check = a .check ∙ sheet-check new is-in;
+        entry = λ e. a .entry e ∙ same-check e;
+        lookup = λ e. a .lookup e ∙ same-lookup e;
+      }
+
+  made : (out : List ℕ) → length s ≤ length out → Converted v s out new
+  made out r =
+      record {
+        writes = writes v s out h d r;
+        sheet = is-in;
+        edition = edition-in v s (long v s h d);
+        entries = record { number = entries-in v s; entry = entry-in v s };
+        back = back;
+        old-reader = old-reader;
+      }
+
+  pub library-in : libraryOf new ≡ inLibrary v (libraryOf s)
+  library-in =
+      let n = entries-in v s in
+      let w = edition-in v s (long v s h d) in
+      let k : libraryOf new .kinds ≡ libraryOf s .kinds = rw (n, behind-in v s 0) refl in
+      let t : libraryOf new .settings ≡ libraryOf s .settings = rw (n, behind-in v s (entriesOf s)) refl in
+      λ i. record { n = n i; edition = w i; kinds = k i; settings = t i }
+
+  as-write : (out : List ℕ) → AsWrite v s out (libraryOf new)
+  as-write out = go (below (length out) (length s))
+    where
+      f : Fits (entriesOf new) new
+      f = is-in .size .fits
+
+      go : (length out < length s) ⊎ (length s ≤ length out) → AsWrite v s out (libraryOf new)
+      go (inl r) =
+          let z = too-short s (length out) h v d r in
+          let l = length-in v s in
+          let k = f .long in
+          let q = write-short (entriesOf new) (length out) (f .some) (f .most) (omega arith) in
+          record { answer = rw (z, ← q) refl; bytes = rw (z, ← q) (sym (over-none 0 out)) }
+      go (inr r) =
+          let l = length-in v s in
+          let w = writes v s out h d r in
+          let q = rewritten new is-in out (omega arith) in
+          record { answer = w .answer ∙ sym (q .answer); bytes = w .bytes ∙ sym (q .bytes) }
+
+-- ---- all of them
+
+-- the first bytes of what was written are the sheet
+is-written : {v : Edition} {s out t : List ℕ} → Writes v s out t → converted v s out ≡ t
+is-written {v} {s} {out} {t} w =
+    ap (λ (r : Written). take (r .length) (convertedOf v s out)) (w .answer) ∙ ap (take (length t)) (w .bytes) ∙ take-append-seam t (drop (length t) out)
+
+pub accepted-converted : (v : Edition) (s out : List ℕ) → convertOf v s out .number ≡ 0 → Converted v s out (converted v s out)
+accepted-converted v s out z =
+    let h = check-sheet s (is-sheet v s (length out) z) in
+    let d = has-of v s (length out) h (λ e. let w = sym z ∙ e in omega arith) in
+    let m = made v s h d out (has-room v s (length out) z) in
+    rw (is-written (m .writes)) m
+
+pub conversions : Conversions
+conversions =
+    record {
+      accepted = accepted-converted;
+      refused = refused;
+      up = λ s out h. exactly (up s (length out) h);
+      down = λ s out h. exactly (down s (length out) h);
+      four = λ s out h. (told-four s (length out) h, tells-four s (length out) h);
+      copied = copied;
+      as-write = λ v s out h n. let d = has-of v s (length out) h n in rw (library-in v s h d) at (as-write v s h d out);
+    }

@@ -1,0 +1,50 @@
+-- The converter (02 f): a sheet as a sheet of the edition that is wanted.
+use Prim.Native.Nat.{ℕ, _/_}
+use mathlib.Core.Bool.{cond}
+use mathlib.Core.List.{List}
+use lib.Dec.{eqb, ltb}
+use lib.ListN.{length, set}
+use Rattle.filter_core.specs.Refusal.{unlessRefused}
+use Rattle.filter_core.specs.Rows.{_then_}
+use Rattle.lists.specs.Over.{over}
+use Rattle.sheets.specs.Edition.{editionByte}
+use Rattle.sheets.specs.Refusal.{firstRefusal}
+use Rattle.sheets.specs.Sheet.{entriesOf, kindAt, checkOf}
+use Rattle.sheets.specs.declared.edition.Edition.{Edition}
+use Rattle.sheets.specs.declared.edition.Edition.the-variants.{One, Two}
+use Rattle.library.specs.declared.Written.{Written}
+
+-- the sheet s with the second byte of the edition v; all else is the same in both
+abbrev pub inEdition : Edition → List ℕ → List ℕ
+inEdition v s = set s 1 (editionByte v)
+
+-- ---- the refusals
+
+-- 15 of 02 f, for a kind byte, which is kind + 16 * approximation: approximation 4, which edition 1 does not have
+abbrev pub seriesRefusal : ℕ → ℕ
+seriesRefusal kind = cond (eqb (kind / 16) 4) 15 0
+
+-- for the first n entries
+abbrev pub entriesRefusal : ℕ → List ℕ → ℕ
+entriesRefusal n s = firstRefusal n (λ e. seriesRefusal (kindAt s e))
+
+-- for a sheet that is wanted in an edition; edition 2 has all that there is
+abbrev pub editionRefusal : Edition → List ℕ → ℕ
+editionRefusal One s = entriesRefusal (entriesOf s) s
+editionRefusal Two s = 0
+
+-- `short` of the refusal table, for a sheet of l bytes and an output of m places
+abbrev pub roomRefusal : ℕ → ℕ → ℕ
+roomRefusal l m = cond (ltb m l) 12 0
+
+-- the number that opening s gives, then 15, then 12
+abbrev pub convertRefusal : Edition → List ℕ → ℕ → ℕ
+convertRefusal v s m = checkOf s then editionRefusal v s then roomRefusal (length s) m
+
+-- ---- the answer, and the output as it is left: where the call is refused, 0 bytes long and as it was
+
+abbrev pub convertOf : Edition → List ℕ → List ℕ → Written
+convertOf v s out = record { number = convertRefusal v s (length out); length = unlessRefused (convertRefusal v s (length out)) 0 (length s) }
+
+abbrev pub convertedOf : Edition → List ℕ → List ℕ → List ℕ
+convertedOf v s out = unlessRefused (convertRefusal v s (length out)) out (over 0 (inEdition v s) out)

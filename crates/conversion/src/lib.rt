@@ -1,0 +1,92 @@
+// The converter (02 f): a sheet of either edition as a sheet of the one that is wanted. It needs no frame, and touches none.
+
+use library::Written;
+use sheets::Edition;
+ghost use mathlib.Core.Path.{_≡_};
+ghost use Rattle.sheets.specs.Refusal.{firstRefusal};
+ghost use Rattle.sheets.specs.Sheet.{kindAt};
+ghost use Rattle.conversion.specs.Conversion.{seriesRefusal, entriesRefusal, editionRefusal, roomRefusal, convertRefusal, convertOf, convertedOf};
+ghost use Rattle.conversion.specs.Rows.{ConvertByRows};
+ghost use Rattle.conversion.specs.Converted.{Conversions};
+
+// ---- the refusals
+
+// A kind byte's high half is the approximation.
+fn series_refusal(kind: u8) -> u8
+    ensures { λ r. ⌜ r ≡ seriesRefusal kind ⌝ }
+{
+    if kind / 16 == 4 { 15 } else { 0 }
+}
+
+fn entries_refusal(n: usize, sheet: &[u8]) -> u8
+    ensures { λ r. ⌜ r ≡ entriesRefusal n (now (sheet .entry)) ⌝ }
+{
+    let mut e = 0;
+    while e < n {
+        let number = series_refusal(words::byte_at(sheet, 2, e));
+        if number != 0 {
+            return number;
+        }
+        e += 1;
+    }
+    0
+}
+
+fn edition_refusal(wanted: Edition, sheet: &[u8]) -> u8
+    ensures { λ r. ⌜ r ≡ editionRefusal wanted (now (sheet .entry)) ⌝ }
+{
+    match wanted {
+        Edition::One => entries_refusal(sheets::entries(sheet), sheet),
+        Edition::Two => 0,
+    }
+}
+
+fn room_refusal(length: usize, room: usize) -> u8
+    ensures { λ r. ⌜ r ≡ roomRefusal length room ⌝ }
+{
+    if room < length { 12 } else { 0 }
+}
+
+fn convert_refusal(wanted: Edition, sheet: &[u8], room: usize) -> u8
+    ensures { λ r. ⌜ r ≡ convertRefusal wanted (now (sheet .entry)) room ⌝ }
+{
+    let open = sheets::check(sheet);
+    let edition = edition_refusal(wanted, sheet);
+    let short = room_refusal(sheet.len(), room);
+    filter_core::then(open, filter_core::then(edition, short))
+}
+
+// ---- the converter
+
+// Writes the sheet in the wanted edition, and answers as `library::write` does: the number and the length, which is 0 where the call is
+// refused. A sheet that is in that edition already is copied. Places behind the sheet keep their contents.
+pub fn convert(wanted: Edition, sheet: &[u8], output: &mut [u8]) -> Written
+    ensures { λ r. ⌜ r ≡ convertOf wanted (now (sheet .entry)) (now (output .entry)) ⌝ }
+    ensures { λ _. ⌜ now (output .exit) ≡ convertedOf wanted (now (sheet .entry)) (now (output .entry)) ⌝ }
+{
+    let number = convert_refusal(wanted, sheet, output.len());
+    if number != 0 {
+        return Written {
+            number: number,
+            length: 0,
+        };
+    }
+    lists::copy(sheet, output, 0);
+    output[1] = sheets::edition_byte(wanted);
+    Written {
+        number: number,
+        length: sheet.len(),
+    }
+}
+
+// ---- the theorems
+
+// `convert` answers each number in its row's case, and in no other.
+pub fn convert_by_rows()
+    ensures { λ _. ⌜ ConvertByRows ⌝ }
+{}
+
+// What a conversion makes of a sheet, what it leaves of the output, and that it can be undone.
+pub fn conversions()
+    ensures { λ _. ⌜ Conversions ⌝ }
+{}
