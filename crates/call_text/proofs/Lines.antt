@@ -7,6 +7,7 @@ use borrow.Author.Needs.{needs}
 use borrow.Author.Tests.{lt-ltb, le-ltb, eq-eqb, ne-eqb, not-true, not-false}
 use lib.ListN.{length, getD}
 use Rattle.runs.specs.declared.RunForm.{RunForm}
+use Rattle.sheets.specs.declared.edition.Edition as sheets
 use Rattle.form_text.specs.Part.{partsOf, textOf}
 use Rattle.form_text.specs.Form.{formOf}
 use Rattle.form_text.specs.declared.part.Part.{Part}
@@ -15,10 +16,13 @@ use Rattle.form_text.specs.declared.form.ReadForm.{ReadForm}
 use Rattle.form_text.specs.declared.form.ReadForm.the-variants.{Form, NoForm}
 use Rattle.form_text.proofs.Fields.{fields}
 use Rattle.call_text.specs.Buffer.{bytesField, samplesField}
+use Rattle.call_text.specs.Edition.{editionWord}
 use Rattle.call_text.specs.Keyword.{keywordOf, shapeOf}
-use Rattle.call_text.specs.Line.{ifForm, withBytes, withSamples, callOfShape, callFor, callOf}
+use Rattle.call_text.specs.Line.{ifForm, ifEdition, withBytes, withSamples, callOfShape, callFor, callOf}
 use Rattle.call_text.specs.declared.line.Call.{Call}
 use Rattle.call_text.specs.declared.line.Call.the-variants.{Silent, BadLine}
+use Rattle.call_text.specs.declared.edition.ReadEdition.{ReadEdition}
+use Rattle.call_text.specs.declared.edition.ReadEdition.the-variants.{Edition, NoEdition}
 use Rattle.call_text.specs.declared.keyword.Shape.{Shape}
 
 module _ (s : List ℕ) (p : Part) {t : List ℕ} (q : t ≡ textOf s p) where
@@ -28,12 +32,22 @@ module _ (s : List ℕ) (p : Part) {t : List ℕ} (q : t ≡ textOf s p) where
   pub form-none : {w : ReadForm} (g : RunForm → Call) → w ≡ formOf t → w ≡ NoForm → BadLine ≡ ifForm (formOf (textOf s p)) g
   form-none g w e = rw (← q, ← w, e) refl
 
+  pub edition-is : {v : sheets.Edition} {w : ReadEdition} {r : Call} (g : sheets.Edition → Call) → w ≡ editionWord t → w ≡ Edition v → r ≡ g v
+      → r ≡ ifEdition (editionWord (textOf s p)) g
+  edition-is g w e h = h ∙ rw (← q, ← w, e) refl
+
+  pub edition-none : {w : ReadEdition} (g : sheets.Edition → Call) → w ≡ editionWord t → w ≡ NoEdition → BadLine ≡ ifEdition (editionWord (textOf s p)) g
+  edition-none g w e = rw (← q, ← w, e) refl
+
   module _ {w : Bool} {r : Call} (x : Call) where
     pub bytes-are : w ≡ bytesField t → w ≡ true → r ≡ x → r ≡ withBytes s p x
     bytes-are w e h = h ∙ rw (← q, ← w, e) refl
 
     pub samples-are : w ≡ samplesField t → w ≡ true → r ≡ x → r ≡ withSamples s p x
     samples-are w e h = h ∙ rw (← q, ← w, e) refl
+
+    pub bytes-not-bad : w ≡ bytesField t → not w ≡ false → r ≡ x → r ≡ withBytes s p x
+    bytes-not-bad b e h = bytes-are b (not-false w e) h
 
     pub samples-not-bad : w ≡ samplesField t → not w ≡ false → r ≡ x → r ≡ withSamples s p x
     samples-not-bad b e h = samples-are b (not-false w e) h
@@ -44,6 +58,9 @@ module _ (s : List ℕ) (p : Part) {t : List ℕ} (q : t ≡ textOf s p) where
 
     pub samples-bad : w ≡ samplesField t → w ≡ false → BadLine ≡ withSamples s p x
     samples-bad w e = rw (← q, ← w, e) refl
+
+    pub bytes-not : w ≡ bytesField t → not w ≡ true → BadLine ≡ withBytes s p x
+    bytes-not b e = bytes-bad b (not-true w e)
 
     pub samples-not : w ≡ samplesField t → not w ≡ true → BadLine ≡ withSamples s p x
     samples-not b e = samples-bad b (not-true w e)
@@ -66,4 +83,4 @@ module _ (s : List ℕ) where
   unfolding callOf
   line-is l h p t k r = rw (le-ltb (length s) 1 l, ne-eqb (getD s 0 0) 35 h, r, k, t, p) refl
 
-pub ruleset lines = (form-is, form-none, bytes-are, bytes-bad, samples-are, samples-bad, samples-not-bad, samples-not, shape-is, line-empty, line-comment, line-is, fields, needs)
+pub ruleset lines = (form-is, form-none, edition-is, edition-none, bytes-are, bytes-bad, bytes-not-bad, bytes-not, samples-are, samples-bad, samples-not-bad, samples-not, shape-is, line-empty, line-comment, line-is, fields, needs)

@@ -1,3 +1,4 @@
 pub mod Buffer
+pub mod Edition
 pub mod Keyword
 pub mod Line

@@ -33,12 +33,15 @@ pub const CHECK1: usize = 12;
 
 pub const LOOKUP1: usize = 13;
 
+pub const CONVERT: usize = 14;
+
 // What stands behind a keyword.
 pub(crate) enum Shape {
     Head,
     HeadNumber,
     Bytes,
     BytesNumber,
+    Convert,
     Run,
     Two,
     NoShape,
@@ -50,7 +53,7 @@ pub fn number_of(s: &[u8]) -> usize
 {
     form_text::name_index(
         s,
-        b"open load run two rest mark back drop write check lookup head check1 lookup1",
+        b"open load run two rest mark back drop write check lookup head check1 lookup1 convert",
     )
 }
 
@@ -72,6 +75,7 @@ pub(crate) fn shape_of(keyword: usize) -> Shape
         HEAD => Shape::Head,
         CHECK1 => Shape::BytesNumber,
         LOOKUP1 => Shape::BytesNumber,
+        CONVERT => Shape::Convert,
         _ => Shape::NoShape,
     }
 }

@@ -1,9 +1,11 @@
 // A whole line.
 
 ghost use mathlib.Core.Path.{_≡_};
-ghost use Rattle.call_text.specs.Line.{headCall, headNumberCall, bytesCall, bytesNumberCall, runCall, twoCall, callFor, callOf};
+ghost use Rattle.call_text.specs.Line.{headCall, headNumberCall, bytesCall, bytesNumberCall, convertCall, runCall, twoCall, callFor, callOf};
 use crate::buffer::is_bytes;
 use crate::buffer::is_samples;
+use crate::edition::ReadEdition;
+use crate::edition::edition_word;
 use crate::keyword::Shape;
 use crate::keyword::number_of;
 use crate::keyword::shape_of;
@@ -15,6 +17,7 @@ use form_text::form_of;
 use form_text::split;
 use form_text::text;
 use runs::RunForm;
+use sheets::Edition;
 
 // What a line asks for, by what stands behind its keyword; the keyword's number comes first. A buffer or a sheet is the part of the line
 // that has its text: `digits::samples` and `digits::bytes` read it.
@@ -26,6 +29,7 @@ pub enum Call {
     OfHeadNumber(usize, usize, usize),
     OfBytes(usize, Part),
     OfBytesNumber(usize, Part, usize),
+    OfConvert(Edition, Part, Part),
     OfRun(usize, RunForm, Part, Part),
     OfTwo(usize, RunForm, Part, Part, Part),
 }
@@ -81,6 +85,25 @@ fn bytes_number_call(keyword: usize, s: &[u8], count: usize, b: Part, c: Part) -
     };
     if is_bytes(text(s, b)) {
         Call::OfBytesNumber(keyword, b, number)
+    } else {
+        Call::BadLine
+    }
+}
+
+fn convert_call(s: &[u8], count: usize, b: Part, c: Part, d: Part) -> Call
+    ensures { λ r. ⌜ r ≡ convertCall (now (s .entry)) count b c d ⌝ }
+{
+    if count != 4 {
+        return Call::BadLine;
+    }
+    let ReadEdition::Edition(edition) = edition_word(text(s, b)) else {
+        return Call::BadLine;
+    };
+    if !is_bytes(text(s, c)) {
+        return Call::BadLine;
+    }
+    if is_bytes(text(s, d)) {
+        Call::OfConvert(edition, c, d)
     } else {
         Call::BadLine
     }
@@ -142,6 +165,7 @@ fn call_for(keyword: usize, s: &[u8], p: Parts) -> Call
         Shape::HeadNumber => head_number_call(keyword, s, p.count, p.b, p.c),
         Shape::Bytes => bytes_call(keyword, s, p.count, p.b),
         Shape::BytesNumber => bytes_number_call(keyword, s, p.count, p.b, p.c),
+        Shape::Convert => convert_call(s, p.count, p.b, p.c, p.d),
         Shape::Run => run_call(s, p.count, p.b, p.c, p.d, p.e),
         Shape::Two => two_call(s, p.count, p.b, p.c, p.d, p.e, p.f),
         Shape::NoShape => Call::BadLine,

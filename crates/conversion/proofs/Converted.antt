@@ -1,29 +1,30 @@
 -- What a conversion makes of a sheet, and that it can be undone. Assumes nothing.
 use Prim.Native.Nat.{ℕ, _≤_, _<_}
 use mathlib.Core.Path.{_≡_, refl, sym, ap, _∙_}
-use mathlib.Core.List.{List}
+use mathlib.Core.List.{List, [], _∷_}
 use mathlib.Core.Logic.{_⊎_, inl, inr}
 use native.Mathlib.Omega.{arith}
 use borrow.Author.Tests.{ne-eqb}
-use lib.ListN.{length, getD, take, drop}
-use lib.Seq.{take-append-seam}
+use lib.ListN.{length, getD, set, take, drop, length-set}
+use lib.Seq.{take-append-seam, set-append-left}
 use Rattle.filter_core.proofs.Rows.{below, exactly}
-use Rattle.lists.proofs.Over.{over-none, over-all}
+use Rattle.lists.specs.Over.{over}
+use Rattle.lists.proofs.Over.{over-none, over-all, over-one, length-over}
+use Rattle.sheets.specs.Edition.{editionByte}
 use Rattle.sheets.specs.Sheet.{entriesOf, editionIn, Fits, checkEntryOf, lookupOf}
 use Rattle.sheets.specs.Rows.{Sheet}
 use Rattle.sheets.specs.declared.edition.Edition.{Edition}
 use Rattle.sheets.specs.declared.edition.Edition.the-variants.{One}
 use Rattle.sheets.proofs.Editions.{both-editions}
-use Rattle.sheets.proofs.Rows.{check-sheet, sheet-check}
+use Rattle.sheets.proofs.Rows.{sheet-check}
 use Rattle.library.specs.Library.{libraryOf}
 use Rattle.library.specs.declared.Written.{Written}
 use Rattle.library.proofs.RoundTrip.{rewritten}
 use Rattle.library.proofs.Rows.{write-short}
-use Rattle.conversion.specs.Conversion.{inEdition, convertRefusal, convertOf, convertedOf}
+use Rattle.conversion.specs.Conversion.{convertRefusal, convertOf, convertedOf}
 use Rattle.conversion.specs.Rows.{UsesFour}
-use Rattle.conversion.specs.Converted.{converted, Writes, OldReader, Converted, inLibrary, AsWrite, Conversions}
-use Rattle.conversion.proofs.Steps.{is-sheet, has-room}
-use Rattle.conversion.proofs.Rows.{up, down, told-four, tells-four, too-short, accepted}
+use Rattle.conversion.specs.Converted.{inEdition, converted, Writes, OldReader, Converted, inLibrary, AsWrite, Conversions}
+use Rattle.conversion.proofs.Rows.{up, down, told-four, tells-four, too-short, accepted, taken}
 use Rattle.conversion.proofs.Moved.{length-in, entries-in, behind-in, setting-in, entry-in, byte-in, edition-in, long, sheet-in, in-back, in-own, one-has-no-four, no-four-in}
 
 -- a sheet that the edition v has all of: it uses approximation 4 nowhere, or v has it
@@ -35,12 +36,22 @@ has-of v s m h n p u = n (rw p (tells-four s m h u))
 
 -- ---- what is written
 
+-- the byte over the copy of s is s with that byte
+byte-over : (s out : List ℕ) (b : ℕ) → 1 < length s → length s ≤ length out → over 1 (b ∷ []) (over 0 s out) ≡ over 0 (set s 1 b) out
+byte-over s out b a h =
+    let l : length (set s 1 b) ≡ length s = length-set s 1 b in
+    let w = length-over 0 s out in
+    over-one 1 b (over 0 s out) (omega arith)
+    ∙ rw (over-all s out h, set-append-left s (drop (length s) out) 1 b a)
+    (sym (over-all (set s 1 b) out (omega arith) ∙ rw l refl))
+
 -- where a sheet has room and its edition has all of it
 writes : (v : Edition) (s out : List ℕ) → Sheet s → Has v s → length s ≤ length out → Writes v s out (inEdition v s)
 writes v s out h d r =
     let z = accepted s (length out) h v d r in
     let l = length-in v s in
-    record { answer = rw (z, l) refl; bytes = rw z (over-all (inEdition v s) out (omega arith)) }
+    let a = long s h in
+    record { answer = rw (z, l) refl; bytes = rw z (byte-over s out (editionByte v) (omega arith) r ∙ over-all (inEdition v s) out (omega arith)) }
 
 copied : (s out : List ℕ) → Sheet s → length s ≤ length out → Writes (editionIn s) s out s
 copied s out h r = rw (in-own s (h .size)) at (writes (editionIn s) s out h (one-has-no-four s h) r)
@@ -69,7 +80,7 @@ module _ (v : Edition) (s : List ℕ) (h : Sheet s) (d : Has v s) where
 
   old-reader : v ≡ One → OldReader s new
   old-reader p =
-      let b : getD new 1 0 ≡ 0 = byte-in v s (long v s h d) ∙ rw p refl in
+      let b : getD new 1 0 ≡ 0 = byte-in v s (long s h) ∙ rw p refl in
       let a = both-editions .agreed new (λ e. omega arith) in
       record {
         check = a .check ∙ sheet-check new is-in;
@@ -81,8 +92,9 @@ module _ (v : Edition) (s : List ℕ) (h : Sheet s) (d : Has v s) where
   made out r =
       record {
         writes = writes v s out h d r;
+        bytes = refl;
         sheet = is-in;
-        edition = edition-in v s (long v s h d);
+        edition = edition-in v s (long s h);
         entries = record { number = entries-in v s; entry = entry-in v s };
         back = back;
         old-reader = old-reader;
@@ -91,7 +103,7 @@ module _ (v : Edition) (s : List ℕ) (h : Sheet s) (d : Has v s) where
   pub library-in : libraryOf new ≡ inLibrary v (libraryOf s)
   library-in =
       let n = entries-in v s in
-      let w = edition-in v s (long v s h d) in
+      let w = edition-in v s (long s h) in
       let k : libraryOf new .kinds ≡ libraryOf s .kinds = rw (n, behind-in v s 0) refl in
       let t : libraryOf new .settings ≡ libraryOf s .settings = rw (n, behind-in v s (entriesOf s)) refl in
       λ i. record { n = n i; edition = w i; kinds = k i; settings = t i }
@@ -124,9 +136,8 @@ is-written {v} {s} {out} {t} w =
 
 pub accepted-converted : (v : Edition) (s out : List ℕ) → convertOf v s out .number ≡ 0 → Converted v s out (converted v s out)
 accepted-converted v s out z =
-    let h = check-sheet s (is-sheet v s (length out) z) in
-    let d = has-of v s (length out) h (λ e. let w = sym z ∙ e in omega arith) in
-    let m = made v s h d out (has-room v s (length out) z) in
+    let t = taken v s (length out) z in
+    let m = made v s (t .sheet) (t .has) out (t .room) in
     rw (is-written (m .writes)) m
 
 pub conversions : Conversions

@@ -16,8 +16,8 @@ use Rattle.sheets.specs.declared.edition.Edition.the-variants.{One, Two}
 use Rattle.sheets.specs.declared.entry.Entry.{Entry}
 use Rattle.sheets.proofs.Checks.{edition-back}
 use Rattle.sheets.proofs.Editions.{same-setting, same-entry}
-use Rattle.conversion.specs.Conversion.{inEdition}
 use Rattle.conversion.specs.Rows.{UsesFour}
+use Rattle.conversion.specs.Converted.{inEdition}
 
 -- ---- an entry is judged by its sheet's second byte in approximation 4 alone
 
@@ -59,6 +59,10 @@ edition-of-byte : (v : Edition) → editionOf (editionByte v) ≡ v
 edition-of-byte One = refl
 edition-of-byte Two = refl
 
+-- a sheet has a second byte
+pub long : (s : List ℕ) → Sheet s → 1 < length s
+long s h = let l = h .size .fits .long in omega arith
+
 module _ (v : Edition) (s : List ℕ) where
   abbrev new : List ℕ
   new = inEdition v s
@@ -95,9 +99,6 @@ module _ (v : Edition) (s : List ℕ) where
 
   -- it is one where the edition has all that the sheet uses
   module _ (h : Sheet s) (d : v ≡ One → UsesFour s → ⊥) where
-    pub long : 1 < length s
-    long = let l = h .size .fits .long in omega arith
-
     sized-in : Sized new
     sized-in =
         let f = h .size .fits in
@@ -107,7 +108,7 @@ module _ (v : Edition) (s : List ℕ) where
         let b = f .most in
         let c = f .long in
         record {
-          edition = rw (byte-in long) (edition-byte v);
+          edition = rw (byte-in (long s h)) (edition-byte v);
           fits = record { some = omega arith; most = omega arith; long = omega arith };
         }
 
@@ -123,7 +124,7 @@ module _ (v : Edition) (s : List ℕ) where
               λ e l.
               let n = entries-in in
               let m : e < entriesOf s = omega arith in
-              rw (byte-in long, entry-in e) (row-moved (taken v refl e m) (h .entries e m));
+              rw (byte-in (long s h), entry-in e) (row-moved (taken v refl e m) (h .entries e m));
         }
 
 -- and with its own edition's byte again it is itself

@@ -3,13 +3,13 @@ use Prim.Native.Nat.{ℕ, _+_, _*_, _/_, _≤_, _<_}
 use mathlib.Core.Path.{_≡_, refl, sym, _∙_}
 use mathlib.Core.Bool.{Bool, true, false}
 use mathlib.Core.List.{List, [], _∷_}
-use mathlib.Core.Logic.{_⊎_, inl, inr}
+use mathlib.Core.Logic.{_⊎_, inl, inr, ⊎-elim}
 use native.Mathlib.Omega.{arith}
 use borrow.Author.Tests.{eqb-true, eqb-false, eq-eqb, ne-eqb, ltb-true, ltb-false}
 use lib.Dec.{eqb, ltb}
 use lib.ListN.{length}
 use Rattle.filter_core.specs.Rows.{_then_, First, none, here, later}
-use Rattle.filter_core.proofs.Rows.{once, some-then, same, Step, yes, no, step-if, step-to, first-then, first-last}
+use Rattle.filter_core.proofs.Rows.{once, passed, given, some-then, below, same, Step, yes, no, step-if, step-given, step-to, first-then, first-last}
 use Rattle.sheets.specs.Sheet.{entriesOf, kindAt, checkOf}
 use Rattle.sheets.specs.Rows.{Sheet}
 use Rattle.sheets.specs.declared.edition.Edition.{Edition}
@@ -17,24 +17,12 @@ use Rattle.sheets.specs.declared.edition.Edition.the-variants.{One, Two}
 use Rattle.sheets.proofs.Checks.{first-all, first-found}
 use Rattle.sheets.proofs.Rows.{Wrong, scan, check-sheet, sheet-check, checked}
 use Rattle.conversion.specs.Conversion.{seriesRefusal, entriesRefusal, editionRefusal, roomRefusal, convertRefusal}
-use Rattle.conversion.proofs.Steps.{is-sheet}
 use Rattle.conversion.specs.Rows.{UsesFour, ConvertCase, not-in-edition-1, short, ConvertRow, no-sheet, of-sheet, ConvertAnswer}
 
 -- ---- 15
 
 four-step : (k : ℕ) → Step (k / 16 ≡ 4) 15 (seriesRefusal k)
 four-step k = step-if 15 (eqb (k / 16) 4) (eqb-true (k / 16) 4) (eqb-false (k / 16) 4)
-
--- the case of a number that is given holds
-holding : {case : ℕ → Type 0} {ns : List ℕ} {r : ℕ} → First case ns r → (r ≡ 0 → ⊥) → case r
-holding none z = absurd (z refl)
-holding (here p) z = p
-holding (later q f) z = holding f z
-
--- a step that refuses has its case
-refusing : {P : Type 0} {n r : ℕ} → Step P n r → (r ≡ 0 → ⊥) → P × (r ≡ n)
-refusing (yes p) z = (p, refl)
-refusing (no q) z = absurd (z refl)
 
 module _ (s : List ℕ) where
   uses-step : Step (UsesFour s) 15 (entriesRefusal (entriesOf s) s)
@@ -52,7 +40,7 @@ module _ (s : List ℕ) where
       go : ((e : ℕ) → e < entriesOf s → f e ≡ 0) ⊎ Wrong f (entriesOf s) → Step (UsesFour s) 15 (entriesRefusal (entriesOf s) s)
       go (inl h) = rw (first-all f (entriesOf s) h) (no (none h))
       go (inr w) =
-          let u = refusing (four-step (kindAt s (w .place))) (w .some) in
+          let u = step-given (four-step (kindAt s (w .place))) (w .some) in
           let d = first-found f (entriesOf s) (w .place) (first-all f (w .place) (w .before)) (w .inside) refl (w .some) in
           rw (← d, u .1) (yes (record { entry = w .place; inside = w .inside; four = u .0 }))
 
@@ -99,7 +87,7 @@ module _ (s : List ℕ) (m : ℕ) (h : Sheet s) where
 
   -- 15 is asked for first, so it is given exactly where its case holds
   pub told-four : convertRefusal One s m ≡ 15 → UsesFour s
-  told-four e = edition-case e (holding down (λ z. let w = sym e ∙ z in omega arith)) .1
+  told-four e = edition-case e (given down (λ z. let w = sym e ∙ z in omega arith)) .1
 
   pub tells-four : UsesFour s → convertRefusal One s m ≡ 15
   tells-four u = once down (here (not-in-edition-1 refl u))
@@ -133,10 +121,33 @@ module _ (v : Edition) (s : List ℕ) (m : ℕ) where
       let w = checked s .sheets .only r p in
       w ∙ some-then (checkOf s) (editionRefusal v s then roomRefusal (length s) m) (λ z. d (w ∙ z))
 
+-- ---- what an accepted call tells: a sheet, of which the edition has all, and room for it
+
+pub record Taken (v : Edition) (s : List ℕ) (m : ℕ) : Type 0 where
+  pub sheet : Sheet s
+  pub has : v ≡ One → UsesFour s → ⊥
+  pub room : length s ≤ m
+
+module _ (v : Edition) (s : List ℕ) (m : ℕ) where
+  row-taken : {r : ℕ} → ConvertRow v s m r → r ≡ 0 → Taken v s m
+  row-taken (no-sheet p d) z = absurd (d z)
+  row-taken (of-sheet h f) z =
+      let x = passed f (λ e. omega arith) in
+      let y = passed (x .1) (λ e. omega arith) in
+      let l = h .size .fits .long in
+      record {
+        sheet = h;
+        has = λ p u. x .0 (not-in-edition-1 p u);
+        room = ⊎-elim (λ k. absurd (y .0 (short (omega arith)))) (λ k. k) (below m (length s));
+      }
+
+  pub taken : convertRefusal v s m ≡ 0 → Taken v s m
+  taken z = row-taken (convert-row v s m) z
+
 pub convert-by-rows : (v : Edition) (s out : List ℕ) → ConvertAnswer v s out
 convert-by-rows v s out =
     record {
       number = record { is = convert-row v s (length out); only = λ r p. convert-only v s (length out) p };
-      accepted = λ z. rw z (check-sheet s (is-sheet v s (length out) z) .size .fits .long);
+      accepted = λ z. rw z (taken v s (length out) z .sheet .size .fits .long);
       refused = λ z. rw (ne-eqb (convertRefusal v s (length out)) 0 z) refl;
     }

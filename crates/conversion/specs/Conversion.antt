@@ -1,9 +1,9 @@
 -- The converter (02 f): a sheet as a sheet of the edition that is wanted.
 use Prim.Native.Nat.{ℕ, _/_}
 use mathlib.Core.Bool.{cond}
-use mathlib.Core.List.{List}
+use mathlib.Core.List.{List, [], _∷_}
 use lib.Dec.{eqb, ltb}
-use lib.ListN.{length, set}
+use lib.ListN.{length}
 use Rattle.filter_core.specs.Refusal.{unlessRefused}
 use Rattle.filter_core.specs.Rows.{_then_}
 use Rattle.lists.specs.Over.{over}
@@ -13,10 +13,6 @@ use Rattle.sheets.specs.Sheet.{entriesOf, kindAt, checkOf}
 use Rattle.sheets.specs.declared.edition.Edition.{Edition}
 use Rattle.sheets.specs.declared.edition.Edition.the-variants.{One, Two}
 use Rattle.library.specs.declared.Written.{Written}
-
--- the sheet s with the second byte of the edition v; all else is the same in both
-abbrev pub inEdition : Edition → List ℕ → List ℕ
-inEdition v s = set s 1 (editionByte v)
 
 -- ---- the refusals
 
@@ -41,10 +37,11 @@ roomRefusal l m = cond (ltb m l) 12 0
 abbrev pub convertRefusal : Edition → List ℕ → ℕ → ℕ
 convertRefusal v s m = checkOf s then editionRefusal v s then roomRefusal (length s) m
 
--- ---- the answer, and the output as it is left: where the call is refused, 0 bytes long and as it was
+-- ---- the answer, and the output as it is left: where the call is refused, the length 0, and as it was
 
 abbrev pub convertOf : Edition → List ℕ → List ℕ → Written
 convertOf v s out = record { number = convertRefusal v s (length out); length = unlessRefused (convertRefusal v s (length out)) 0 (length s) }
 
+-- the sheet over the output, and over its second place the edition's byte
 abbrev pub convertedOf : Edition → List ℕ → List ℕ → List ℕ
-convertedOf v s out = unlessRefused (convertRefusal v s (length out)) out (over 0 (inEdition v s) out)
+convertedOf v s out = unlessRefused (convertRefusal v s (length out)) out (over 1 (editionByte v ∷ []) (over 0 s out))

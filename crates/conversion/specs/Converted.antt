@@ -2,8 +2,9 @@
 use Prim.Native.Nat.{ℕ, _≤_}
 use mathlib.Core.Path.{_≡_}
 use mathlib.Core.List.{List, [], _∷_, _++_}
-use lib.ListN.{length, take, drop}
+use lib.ListN.{length, set, take, drop}
 use Rattle.filter_core.specs.Rows.{Exactly}
+use Rattle.sheets.specs.Edition.{editionByte}
 use Rattle.sheets.specs.Sheet.{entriesOf, editionIn, entryIn, checkEntryOf, lookupOf}
 use Rattle.sheets.specs.EditionOne.{checkOne, checkEntryOne, lookupOne}
 use Rattle.sheets.specs.Rows.{Sheet}
@@ -13,6 +14,10 @@ use Rattle.library.specs.Library.{libraryOf, writeOf, writtenOf}
 use Rattle.library.specs.declared.Library.{Library}
 use Rattle.conversion.specs.Conversion.{convertOf, convertedOf}
 use Rattle.conversion.specs.Rows.{UsesFour, ConvertCase}
+
+-- the sheet s with the second byte of the edition v
+abbrev pub inEdition : Edition → List ℕ → List ℕ
+inEdition v s = set s 1 (editionByte v)
 
 -- the sheet that a conversion wrote: as many bytes of the output as it answers
 abbrev pub converted : Edition → List ℕ → List ℕ → List ℕ
@@ -37,6 +42,7 @@ pub record OldReader (s t : List ℕ) : Type 0 where
 -- an accepted conversion of s to the edition v, which wrote t
 pub record Converted (v : Edition) (s out t : List ℕ) : Type 0 where
   pub writes : Writes v s out t
+  pub bytes : t ≡ inEdition v s
   pub sheet : Sheet t
   pub edition : editionIn t ≡ v
   pub entries : SameEntries s t

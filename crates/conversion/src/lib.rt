@@ -23,9 +23,9 @@ fn entries_refusal(n: usize, sheet: &[u8]) -> u8
 {
     let mut e = 0;
     while e < n {
-        let number = series_refusal(words::byte_at(sheet, 2, e));
-        if number != 0 {
-            return number;
+        let four = series_refusal(words::byte_at(sheet, 2, e));
+        if four != 0 {
+            return four;
         }
         e += 1;
     }
@@ -72,7 +72,7 @@ pub fn convert(wanted: Edition, sheet: &[u8], output: &mut [u8]) -> Written
         };
     }
     lists::copy(sheet, output, 0);
-    output[1] = sheets::edition_byte(wanted);
+    lists::copy(&[sheets::edition_byte(wanted)], output, 1);
     Written {
         number: number,
         length: sheet.len(),

@@ -10,13 +10,13 @@ use Rattle.sheets.specs.Sheet.{entriesOf, entryIn}
 use Rattle.sheets.specs.Rows.{Sheet}
 use Rattle.sheets.specs.declared.edition.Edition.{Edition}
 use Rattle.sheets.specs.declared.entry.Entry.{Entry}
-use Rattle.sheets.proofs.Rows.{check-sheet, sheet-check}
+use Rattle.sheets.proofs.Rows.{sheet-check}
 use Rattle.library.specs.Library.{libraryOf, entryAt}
 use Rattle.library.specs.declared.Library.{Library}
 use Rattle.library.proofs.RoundTrip.{same-entries}
 use Rattle.conversion.specs.Conversion.{convertOf}
 use Rattle.conversion.specs.Converted.{converted, SameEntries}
-use Rattle.conversion.proofs.Steps.{is-sheet}
+use Rattle.conversion.proofs.Rows.{taken}
 use Rattle.conversion.proofs.Converted.{accepted-converted}
 use Rattle.loads.specs.Load.{filterOf}
 use Rattle.heads.specs.Snapshot.{loadedWith}
@@ -98,4 +98,4 @@ module _ (s t : List ℕ) (a : Sheet s) (b : Sheet t) (q : SameEntries s t) (e :
 pub converted-loads : ConvertedLoads
 converted-loads v s out z e =
     let c = accepted-converted v s out z in
-    alike s (converted v s out) (check-sheet s (is-sheet v s _ z)) (c .sheet) (c .entries) e
+    alike s (converted v s out) (taken v s _ z .sheet) (c .sheet) (c .entries) e

@@ -67,6 +67,12 @@ module _ {case : ℕ → Type 0} where
   passed (here p) z = absurd (z refl)
   passed (later p f) z = (p, f)
 
+  -- the case of a number that is given holds
+  pub given : {ns : List ℕ} {r : ℕ} → First case ns r → (r ≡ 0 → ⊥) → case r
+  given none z = absurd (z refl)
+  given (here p) z = p
+  given (later q f) z = given f z
+
   -- a number by a test, and else what comes after it
   pub by-test : {ns : List ℕ} {n r : ℕ} (b : Bool) → (b ≡ true → case n) → (b ≡ false → case n → ⊥) → (b ≡ false → First case ns r)
       → First case (n ∷ ns) (cond b n r)
@@ -84,6 +90,11 @@ pub data Step (P : Type 0) (n : ℕ) : ℕ → Type 0 where
 pub step-if : {P : Type 0} (n : ℕ) (b : Bool) → (b ≡ true → P) → (b ≡ false → P → ⊥) → Step P n (cond b n 0)
 step-if n true p q = yes (p refl)
 step-if n false p q = no (q refl)
+
+-- a step that refuses has its case
+pub step-given : {P : Type 0} {n x : ℕ} → Step P n x → (x ≡ 0 → ⊥) → P × (x ≡ n)
+step-given (yes p) z = (p, refl)
+step-given (no q) z = absurd (z refl)
 
 -- for another statement of its case
 pub step-to : {P Q : Type 0} {n x : ℕ} → (P → Q) → (Q → P) → Step P n x → Step Q n x

@@ -23,6 +23,7 @@ use call_text::keyword::REST;
 use form_text::text;
 use frame::Answer;
 use frame::Frame;
+use sheets::Edition;
 
 // The shapes of a call, by number: a `match` on a number is cheaper to prove than one that takes the call apart with the frame at hand, so
 // that each shape's own function does that.
@@ -38,9 +39,11 @@ const OF_BYTES: usize = 4;
 
 const OF_BYTES_NUMBER: usize = 5;
 
-const OF_RUN: usize = 6;
+const OF_CONVERT: usize = 6;
 
-const OF_TWO: usize = 7;
+const OF_RUN: usize = 7;
+
+const OF_TWO: usize = 8;
 
 fn shape_of(call: Call) -> usize {
     match call {
@@ -50,6 +53,7 @@ fn shape_of(call: Call) -> usize {
         Call::OfHeadNumber(_, _, _) => OF_HEAD_NUMBER,
         Call::OfBytes(_, _) => OF_BYTES,
         Call::OfBytesNumber(_, _, _) => OF_BYTES_NUMBER,
+        Call::OfConvert(_, _, _) => OF_CONVERT,
         Call::OfRun(_, _, _, _) => OF_RUN,
         Call::OfTwo(_, _, _, _, _) => OF_TWO,
     }
@@ -150,12 +154,31 @@ fn of_bytes_number(call: Call, mut now: Answered, line: &[u8], out: &mut [u8]) -
     now
 }
 
+fn convert(wanted: Edition, sheet: &[u8], output: &mut [u8], out: &mut [u8], at: usize) -> usize {
+    let answer = conversion::convert(wanted, sheet, output);
+    put_written(answer.number, answer.length, output, out, at)
+}
+
+fn of_convert(call: Call, mut now: Answered, line: &[u8], out: &mut [u8]) -> Answered {
+    let Call::OfConvert(wanted, s, o) = call else {
+        return now;
+    };
+    let mut sheet = [0u8; 4096];
+    let mut output = [0u8; 4096];
+    let n = digits::bytes(text(line, s), &mut sheet);
+    let m = digits::bytes(text(line, o), &mut output);
+    let at = convert(wanted, &sheet[..n], &mut output[..m], out, now.at);
+    now.at = at;
+    now
+}
+
 fn of_call(shape: usize, call: Call, now: Answered, line: &[u8], out: &mut [u8]) -> Answered {
     match shape {
         OF_HEAD => of_head(call, now, out),
         OF_HEAD_NUMBER => of_head_number(call, now, out),
         OF_BYTES => of_bytes(call, now, line, out),
         OF_BYTES_NUMBER => of_bytes_number(call, now, line, out),
+        OF_CONVERT => of_convert(call, now, line, out),
         OF_RUN => of_run(call, now, line, out),
         _ => of_two(call, now, line, out),
     }

@@ -1,14 +1,14 @@
 -- One list written over another, and the loop that does it. Assumes nothing.
 use Prim.Native.Nat.{ℕ, _+_, _≤_, _<_}
 use mathlib.Core.Path.{_≡_, refl, sym, ap, _∙_}
-use mathlib.Core.List.{List, [], _++_, append-assoc}
+use mathlib.Core.List.{List, [], _∷_, _++_, append-assoc}
 use mathlib.Core.Logic.{⊎-elim}
 use native.Mathlib.Nat.{zero-add, add-assoc}
 use native.Mathlib.Numerals.{add-one}
 use native.Mathlib.Omega.{arith}
 use borrow.Author.Needs.{needs}
 use lib.ListN.{length, getD, set, take, drop, length-set, length-append}
-use lib.Seq.{paste, paste-zero, paste-suc, length-paste, take-paste, drop-paste, take-append-add, take-append-le, take-length, drop-drop}
+use lib.Seq.{paste, paste-zero, paste-suc, length-paste, take-paste, drop-paste, take-append-add, take-append-le, take-length, drop-drop, set-split}
 use Rattle.lists.specs.Over.{room, over}
 use Rattle.filter_core.proofs.Rows.{below}
 
@@ -41,6 +41,13 @@ module _ {A : Type 0} where
   -- the front of what was written
   pub over-front : (k : ℕ) (xs ys : List A) → k ≤ length xs → length xs ≤ length ys → take k (over 0 xs ys) ≡ take k xs
   over-front k xs ys h l = rw (over-all xs ys l) (take-append-le k xs (drop (length xs) ys) h)
+
+  -- one place
+  pub over-one : (at : ℕ) (x : A) (ys : List A) → at < length ys → over at (x ∷ []) ys ≡ set ys at x
+  unfolding over
+  over-one at x ys h =
+      let w : room at (x ∷ []) ys ≡ 1 = omega arith in
+      rw (w, add-one at, append-assoc) (sym (set-split ys at x h))
 
   -- ---- one after the other is both at once
 

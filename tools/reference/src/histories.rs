@@ -348,6 +348,35 @@ impl Writer {
         }
     }
 
+    // An output for a sheet of so many bytes: one in four is too short, one as long.
+    fn output(&mut self, length: usize) -> Vec<u8> {
+        let length = length as u64;
+        let n = match self.numbers.below(4) {
+            0 => self.numbers.below(900),
+            1 => length,
+            2 => length.saturating_sub(1),
+            _ => length + self.numbers.below(3),
+        };
+        (0..n).map(|_| self.numbers.next() as u8).collect()
+    }
+
+    // A conversion. Half of what comes of it is opened, so that heads are loaded from it.
+    fn convert(&mut self) -> u64 {
+        let sheet = self.any_sheet();
+        let wanted = self.numbers.pick(&[1, 2]);
+        let mut out = self.output(sheet.len());
+        let line = format!("convert {wanted} {} {}", hex(&sheet), hex(&out));
+        self.line(&line);
+        match crate::sheets::convert(wanted, &sheet, &mut out) {
+            Ok(length) if self.numbers.percent(50) => {
+                out.truncate(length);
+                self.open(out);
+                2
+            }
+            _ => 1,
+        }
+    }
+
     fn load(&mut self, head: u64) {
         let library = self.library.clone();
         let entry = self.entry_number(&library);
@@ -439,7 +468,7 @@ impl Writer {
     }
 
     fn bad_line(&mut self) {
-        const BAD: [&str; 42] = [
+        const BAD: [&str; 50] = [
             "x",
             " ",
             "open",
@@ -481,6 +510,14 @@ impl Writer {
             "check - ",
             "check1 -",
             "lookup2 - 0",
+            "convert",
+            "convert 1 -",
+            "convert 1 - - -",
+            "convert 0 - -",
+            "convert 3 - -",
+            "convert 01 - -",
+            "convert 2 0 -",
+            "convert 2 - 0g",
             "head 12345678901234567890123",
         ];
         match self.numbers.weighted(&[90, 8, 1, 1]) {
@@ -534,7 +571,7 @@ impl Writer {
         let head = self.head();
         match self
             .numbers
-            .weighted(&[330, 130, 100, 60, 60, 35, 50, 40, 20, 20, 20, 20, 20, 8])
+            .weighted(&[330, 130, 100, 60, 60, 35, 50, 40, 20, 20, 20, 20, 20, 20, 8])
         {
             0 => self.run(head, 1),
             1 => self.run(head, 2),
@@ -555,13 +592,7 @@ impl Writer {
                 self.open(sheet);
             }
             9 => {
-                let n = match self.numbers.below(4) {
-                    0 => self.numbers.below(900),
-                    1 => self.library.len() as u64,
-                    2 => self.library.len().saturating_sub(1) as u64,
-                    _ => self.library.len() as u64 + self.numbers.below(3),
-                };
-                let out: Vec<u8> = (0..n).map(|_| self.numbers.next() as u8).collect();
+                let out = self.output(self.library.len());
                 let line = format!("write {}", hex(&out));
                 self.line(&line);
             }
@@ -572,6 +603,7 @@ impl Writer {
                 self.line(&line);
             }
             12 => return self.returns(head),
+            13 => return self.convert(),
             _ => match self.numbers.weighted(&[80, 10, 9, 1]) {
                 0 => self.bad_line(),
                 1 => self.line(""),
@@ -648,7 +680,7 @@ pub fn short(length: u32) -> impl Iterator<Item = Vec<u8>> {
 
 /// Every change of one byte of a valid sheet of each kind byte, of one with all seven kinds, of those in Exact at -0.497, -0.25 and -0.0, and
 /// of sheets of edition 2: every value at every place, every truncation, and every byte behind. Each goes through check and lookup by both
-/// readers and through open, and the entry is loaded and shown.
+/// readers and through open, the entry is loaded and shown, and the sheet is converted to both editions.
 pub fn sheet_changes() -> impl Iterator<Item = Vec<u8>> {
     let valid = |edition: u8, kinds: &[u8], f: u32| {
         let mut sheet = vec![kinds.len() as u8, edition];
@@ -683,6 +715,7 @@ pub fn sheet_changes() -> impl Iterator<Item = Vec<u8>> {
     ));
     sheets.into_iter().flat_map(|sheet| {
         let entries = sheet[0];
+        let lent = "ee".repeat(sheet.len() + 1);
         let mut changed = Vec::new();
         for place in 0..sheet.len() {
             for value in 0..=255 {
@@ -701,7 +734,7 @@ pub fn sheet_changes() -> impl Iterator<Item = Vec<u8>> {
         }
         changed
             .chunks(2000)
-            .map(|chunk| {
+            .map(move |chunk| {
                 let mut text = String::new();
                 for s in chunk {
                     let s = hex(s);
@@ -709,6 +742,7 @@ pub fn sheet_changes() -> impl Iterator<Item = Vec<u8>> {
                     text.push_str(&format!(
                         "check {s} {e}\nlookup {s} {e}\ncheck1 {s} {e}\nlookup1 {s} {e}\nopen {s}\nload 0 {e}\nhead 0\n"
                     ));
+                    text.push_str(&format!("convert 1 {s} {lent}\nconvert 2 {s} {lent}\n"));
                 }
                 text.into_bytes()
             })
@@ -857,8 +891,30 @@ pub fn sample(seed: u64) -> Vec<u8> {
             text.push_str(&format!("check1 {sheet} 0\nlookup1 {sheet} 0\n"));
         }
     }
-    text.push_str("\n# Bad lines.\n");
-    for _ in 0..30 {
+    text.push_str("\n# Sheets of both editions and of none, converted to both: into outputs a byte too long, as long and a byte too short.\n");
+    for kinds in [[1u8, 0x12], [1, 0x42], [1, 0x41], [0x45, 0x43]] {
+        for second in [EDITION_1, EDITION_2, 1] {
+            let mut sheet = vec![2, second];
+            sheet.extend(kinds);
+            for kind in kinds {
+                let b: u32 = if kind % 16 < 3 { 0 } else { 0x3F00_0000 };
+                [0x3E4C_CCCD, b, 0]
+                    .iter()
+                    .for_each(|w| sheet.extend(w.to_le_bytes()));
+            }
+            for wanted in [1, 2] {
+                for n in [sheet.len() + 1, sheet.len(), sheet.len() - 1] {
+                    text.push_str(&format!(
+                        "convert {wanted} {} {}\n",
+                        hex(&sheet),
+                        "ee".repeat(n)
+                    ));
+                }
+            }
+        }
+    }
+    text.push_str("convert 1 - -\nconvert 2 - ee\n\n# Bad lines.\n");
+    for _ in 0..40 {
         writer.text.clear();
         writer.bad_line();
         if writer.text.len() < 200 {

@@ -198,13 +198,23 @@ fn run(
     Some(())
 }
 
-// The edition of a sheet that was accepted.
-fn edition(sheet: &[u8]) -> u8 {
-    if sheet[1] == 2 {
-        2
-    } else {
-        1
+// The answer of a call that writes bytes, and its output as it stands then.
+fn put_written(
+    name: &str,
+    answer: Result<usize, u8>,
+    out: &[u8],
+    counts: &mut Counts,
+    to: &mut String,
+) {
+    match answer {
+        Ok(length) => {
+            numbered(name, 0, counts, to);
+            to.push_str(&format!(" {length}"));
+        }
+        Err(refusal) => numbered(name, refusal, counts, to),
     }
+    to.push(' ');
+    put_bytes(out, to);
 }
 
 fn put_part(name: &str, part: &[u8], counts: &mut Counts, to: &mut String) {
@@ -240,7 +250,7 @@ fn call(frame: &mut Frame, line: &[u8], counts: &mut Counts, to: &mut String) ->
             let sheet = bytes(sheet)?;
             let number = frame.open(&sheet);
             if number == 0 {
-                counts.add(&format!("open of edition {}", edition(&sheet)), 1);
+                counts.add(&format!("open of edition {}", sheets::edition(&sheet)), 1);
             } else if sheets::is_no_edition(&sheet) {
                 counts.add("open of no edition", 1);
             } else if number == 3 && sheets::is_raised(&sheet) {
@@ -291,16 +301,29 @@ fn call(frame: &mut Frame, line: &[u8], counts: &mut Counts, to: &mut String) ->
         }
         [b"write", out] => {
             let mut out = bytes(out)?;
-            match frame.write(&mut out) {
-                Ok(length) => {
-                    counts.add(&format!("write of edition {}", edition(&out)), 1);
-                    numbered("write", 0, counts, to);
-                    to.push_str(&format!(" {length}"));
-                }
-                Err(refusal) => numbered("write", refusal, counts, to),
+            let answer = frame.write(&mut out);
+            if answer.is_ok() {
+                counts.add(&format!("write of edition {}", sheets::edition(&out)), 1);
             }
-            to.push(' ');
-            put_bytes(&out, to);
+            put_written("write", answer, &out, counts, to);
+        }
+        [b"convert", edition, sheet, out] => {
+            let wanted = match edition {
+                b"1" => 1,
+                b"2" => 2,
+                _ => return None,
+            };
+            let (sheet, mut out) = (bytes(sheet)?, bytes(out)?);
+            let answer = sheets::convert(wanted, &sheet, &mut out);
+            match answer {
+                Ok(_) => {
+                    let from = sheets::edition(&sheet);
+                    counts.add("convert accepted", 1);
+                    counts.add(&format!("convert of edition {from} to {wanted}"), 1);
+                }
+                Err(refusal) => counts.add(&format!("convert refused {refusal}"), 1),
+            }
+            put_written("convert", answer, &out, counts, to);
         }
         [b"check", sheet, entry] => {
             let (_, _, refusal) = looked_at("check", sheets::check, sheet, entry, counts)?;

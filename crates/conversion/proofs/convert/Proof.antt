@@ -6,10 +6,11 @@ pub convert-spec : {M : Type 1} → statement M
 convert-spec =
     tie.close
     (tie.spec
-    (λ c κs. search converting)
     (λ c. search converting)
-    (λ c κs. search converting)
-    (λ c κs. search converting)
+    (λ c. search converting)
+    (λ c. search converting)
+    (λ c. search converting)
+    (λ c. search converting)
     (λ c. search converting)
     (λ c. search converting)
     (λ c. search converting))

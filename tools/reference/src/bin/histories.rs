@@ -13,6 +13,9 @@ const PROGRAM: &str = "target/bin/frame_calls";
 const REFERENCE: &str = "target/cargo/release/reference";
 const FOLDER: &str = "target/histories";
 
+/// The numbers of the refusals that there are.
+const REFUSALS: [u8; 13] = [1, 2, 3, 4, 5, 6, 7, 8, 9, 10, 11, 12, 15];
+
 /// How often each thing has to have been tried in a random run.
 const LEAST: u64 = 50;
 
@@ -154,7 +157,7 @@ fn differ(batch: &[Vec<u8>], answers: &[Vec<u8>], expected: &[u8]) -> ! {
 }
 
 fn tried_enough(counts: &Counts) -> bool {
-    let mut wanted: Vec<String> = (1..=12).map(|n| format!("refusal {n}")).collect();
+    let mut wanted: Vec<String> = REFUSALS.map(|n| format!("refusal {n}")).to_vec();
     let types = ["dc", "onepole", "svf", "naive", "modified", "crossover"];
     let forms = [
         "plain",
@@ -194,10 +197,21 @@ fn tried_enough(counts: &Counts) -> bool {
         "lookup1 declines edition 2",
         "open of no edition",
         "open of approximation 4 in edition 1",
+        "convert refused 2",
+        "convert refused 3",
+        "convert refused 4",
+        "convert refused 11",
+        "convert refused 12",
+        "convert refused 15",
     ] {
         wanted.push(call.to_string());
     }
     let often = [
+        "convert accepted",
+        "convert of edition 1 to 1",
+        "convert of edition 1 to 2",
+        "convert of edition 2 to 1",
+        "convert of edition 2 to 2",
         "check1 accepted",
         "lookup1 accepted",
         "open of edition 2",
@@ -219,7 +233,8 @@ fn tried_enough(counts: &Counts) -> bool {
 }
 
 fn summary(counts: &Counts) {
-    let refusals: Vec<String> = (1..=12)
+    let refusals: Vec<String> = REFUSALS
+        .iter()
         .map(|n| format!("{n}: {}", counts.of(&format!("refusal {n}"))))
         .collect();
     println!("refusals {}", refusals.join(", "));
@@ -252,6 +267,18 @@ fn summary(counts: &Counts) {
         counts.of("check1 accepted"),
         counts.of("check1 declines edition 2"),
         counts.of("lookup1 accepted"),
+    );
+    println!(
+        "conversions: edition 1 to 2 {}, 2 to 1 {}, copies {}; refused with 12 {}, with 15 {}, as no sheet {}",
+        counts.of("convert of edition 1 to 2"),
+        counts.of("convert of edition 2 to 1"),
+        counts.of("convert of edition 1 to 1") + counts.of("convert of edition 2 to 2"),
+        counts.of("convert refused 12"),
+        counts.of("convert refused 15"),
+        [2, 3, 4, 11]
+            .map(|n| counts.of(&format!("convert refused {n}")))
+            .iter()
+            .sum::<u64>(),
     );
 }
 
