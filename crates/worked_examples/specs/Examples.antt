@@ -2,7 +2,7 @@
 -- An output buffer is lent full of `kept`, so that the places that a form leaves alone show.
 use mathlib.Core.Path.{_≡_}
 use Prim.Native.Nat.{ℕ}
-use mathlib.Core.List.{List, [], _∷_}
+use mathlib.Core.List.{List, [], _∷_, _++_}
 use lib.Ieee.{Float, nan}
 use Rattle.filter_core.specs.Arithmetic.{word, zeroᶠ, halfᶠ, oneᶠ, negᶠ}
 use Rattle.filter_core.specs.Buffer.{Filtered, bufferAfter, each, puts, eachDue, putsDue}
@@ -24,7 +24,9 @@ use Rattle.crossover_svf.specs.CrossoverSvf.{crossoverNext, crossoverOut, zeros
 use Rattle.crossover_svf.specs.declared.CrossoverSvf.{CrossoverSvf}
 use Rattle.sheets.specs.Sheet.{checkOf}
 use Rattle.sheets.specs.EditionOne.{checkOne, lookupOne}
+use Rattle.sheets.specs.declared.edition.Edition.the-variants.{One}
 use Rattle.library.specs.Library.{zeroBytes, libraryOf, bytesOf, entryAt}
+use Rattle.conversion.specs.Conversion.{convertOf, convertedOf}
 use Rattle.any_filter.specs.declared.Filter.the-variants.{Dc, OnePole as OnePoleIn}
 use Rattle.loads.specs.Load.{filterOf}
 use Rattle.runs.specs.declared.RunForm.the-variants.{Plain}
@@ -107,6 +109,10 @@ seriesSheet v = 0x01 ∷ v ∷ 0x42 ∷ 0x00 ∷ 0x00 ∷ 0x00 ∷ 0x3f ∷ zero
 
 abbrev pub threeEditions : List Call
 threeEditions = opening (seriesSheet 2) ∷ opening (seriesSheet 0) ∷ opening (seriesSheet 1) ∷ []
+
+-- the same in Accurate, which both editions have
+abbrev pub accurateSheet : ℕ → List ℕ
+accurateSheet v = 0x01 ∷ v ∷ 0x12 ∷ 0x00 ∷ 0x00 ∷ 0x00 ∷ 0x3f ∷ zeroBytes 8
 
 -- ---- the table
 
@@ -198,3 +204,9 @@ pub record WorkedExamples : Type 0 where
   pub edition-filter : filterOf (entryAt (libraryOf (seriesSheet 2)) 0) ≡ OnePoleIn (word 0x4129_e2fd) (word 0x3db0_478a) zeroᶠ
   pub edition-declined : checkOne (seriesSheet 2) ≡ 2
   pub edition-not-shown : lookupOne (seriesSheet 2) 0 ≡ []
+  -- document 02, f: the sheet in Accurate becomes one of edition 1, and the place behind it is kept; a byte too little is refused with 12. The
+  -- one in approximation 4 is refused with 15, which comes first
+  pub converted-answer : convertOf One (accurateSheet 2) (zeroBytes 16) ≡ record { number = 0; length = 15 }
+  pub converted-bytes : convertedOf One (accurateSheet 2) (zeroBytes 15 ++ 0xee ∷ []) ≡ accurateSheet 0 ++ 0xee ∷ []
+  pub converted-short : convertOf One (accurateSheet 2) (zeroBytes 14) ≡ record { number = 12; length = 0 }
+  pub not-converted : convertOf One (seriesSheet 2) (zeroBytes 14) ≡ record { number = 15; length = 0 }

@@ -51,6 +51,10 @@ computed =
       edition-filter = refl;
       edition-declined = refl;
       edition-not-shown = refl;
+      converted-answer = refl;
+      converted-bytes = refl;
+      converted-short = refl;
+      not-converted = refl;
     }
 
 pub worked-examples-spec : {M : Type 1} → statement M
