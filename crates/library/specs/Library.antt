@@ -5,6 +5,7 @@ use mathlib.Core.List.{List, _∷_, _++_}
 use lib.Dec.{eqb, ltb}
 use lib.ListN.{length, getD, take, drop, replicate}
 use Rattle.lists.specs.Over.{over}
+use Rattle.lists.specs.Room.{roomRefusal}
 use Rattle.sheets.specs.Edition.{editionByte}
 use Rattle.sheets.specs.Sheet.{entriesOf, editionIn, entryOf, checkOf}
 use Rattle.sheets.specs.declared.edition.Edition.the-variants.{One}
@@ -51,7 +52,7 @@ bytesOf l = (l .n ∷ editionByte (l .edition) ∷ take (l .n) (l .kinds)) ++ ta
 
 -- `size`, then `short` of the refusal table, for an output of m places; no library of a sheet has more than 64 entries
 abbrev pub writeRefusal : ℕ → ℕ → ℕ
-writeRefusal n m = cond (ltb n 1) 2 (cond (ltb 64 n) 2 (cond (ltb m (2 + 13 * n)) 12 0))
+writeRefusal n m = cond (ltb n 1) 2 (cond (ltb 64 n) 2 (roomRefusal (2 + 13 * n) m))
 
 -- a refused write has the length 0
 abbrev pub writtenLength : ℕ → ℕ → ℕ

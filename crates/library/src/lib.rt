@@ -83,7 +83,7 @@ fn write_refusal(n: usize, room: usize) -> u8
     if 64 < n {
         return 2;
     }
-    if room < 2 + 13 * n { 12 } else { 0 }
+    lists::room_refusal(2 + 13 * n, room)
 }
 
 fn written_length(number: u8, n: usize) -> usize

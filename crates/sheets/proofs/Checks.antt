@@ -17,6 +17,7 @@ use Rattle.sheets.specs.Refusal.{firstRefusal}
 use Rattle.sheets.specs.Sheet.{entriesOf, editionIn, Fits, Sized, settingBehind, sizeRefusal, refusalAt, checkAs, checkOf, entryNumberRefusal, partFor, checkEntryOf}
 use Rattle.sheets.specs.EditionOne.{entriesOne, checkEntryOne}
 use Rattle.sheets.specs.declared.edition.Edition.{Edition}
+use Rattle.sheets.specs.declared.edition.Edition.the-variants.{One, Two}
 
 -- ---- the first refusal of many
 
@@ -133,6 +134,15 @@ named-of b = go (same b 0) (same b 2)
     go (inl x) y = named (inl x) (rw x refl)
     go (inr x) (inl y) = named (inr y) (rw y refl)
     go (inr x) (inr y) = unnamed (λ o. ⊎-elim x y o) (rw (ne-eqb b 0 x, ne-eqb b 2 y) refl)
+
+-- an edition's byte names an edition, and that one
+pub edition-named : (v : Edition) → (editionByte v ≡ 0) ⊎ (editionByte v ≡ 2)
+edition-named One = inl refl
+edition-named Two = inr refl
+
+pub edition-of-byte : (v : Edition) → editionOf (editionByte v) ≡ v
+edition-of-byte One = refl
+edition-of-byte Two = refl
 
 -- the byte of an edition comes back
 pub edition-back : {b : ℕ} → (b ≡ 0) ⊎ (b ≡ 2) → editionByte (editionOf b) ≡ b
