@@ -22,17 +22,12 @@ use Rattle.library.specs.declared.Written.{Written}
 use Rattle.library.proofs.RoundTrip.{rewritten}
 use Rattle.library.proofs.Rows.{write-short}
 use Rattle.conversion.specs.Conversion.{convertRefusal, convertOf, convertedOf}
-use Rattle.conversion.specs.Rows.{UsesFour}
-use Rattle.conversion.specs.Converted.{inEdition, converted, Writes, OldReader, Converted, inLibrary, AsWrite, Conversions}
-use Rattle.conversion.proofs.Rows.{up, down, told-four, tells-four, too-short, accepted, taken}
-use Rattle.conversion.proofs.Moved.{length-in, entries-in, behind-in, setting-in, entry-in, byte-in, edition-in, long, sheet-in, in-back, in-own, one-has-no-four, no-four-in}
-
--- a sheet that the edition v has all of: it uses approximation 4 nowhere, or v has it
-abbrev Has : Edition → List ℕ → Type 0
-Has v s = v ≡ One → UsesFour s → ⊥
+use Rattle.conversion.specs.Converted.{inEdition, writtenSheet, Writes, OldReader, Converted, withEdition, AsWrite, Conversions}
+use Rattle.conversion.proofs.Rows.{up, down, told-series, tells-series, Has, too-short, accepted, taken}
+use Rattle.conversion.proofs.Moved.{length-in, entries-in, behind-in, setting-in, entry-in, byte-in, edition-in, long, sheet-in, in-back, in-own, one-has-no-series, no-series-in}
 
 has-of : (v : Edition) (s : List ℕ) (m : ℕ) → Sheet s → (convertRefusal v s m ≡ 15 → ⊥) → Has v s
-has-of v s m h n p u = n (rw p (tells-four s m h u))
+has-of v s m h n p u = n (rw p (tells-series s m h u))
 
 -- ---- what is written
 
@@ -54,41 +49,38 @@ writes v s out h d r =
     record { answer = rw (z, l) refl; bytes = rw z (byte-over s out (editionByte v) (omega arith) r ∙ over-all (inEdition v s) out (omega arith)) }
 
 copied : (s out : List ℕ) → Sheet s → length s ≤ length out → Writes (editionIn s) s out s
-copied s out h r = rw (in-own s (h .size)) at (writes (editionIn s) s out h (one-has-no-four s h) r)
+copied s out h r = rw (in-own s (h .size)) at (writes (editionIn s) s out h (one-has-no-series s h) r)
 
 refused : (v : Edition) (s out : List ℕ) → (convertOf v s out .number ≡ 0 → ⊥) → convertedOf v s out ≡ out
 refused v s out z = rw (ne-eqb (convertRefusal v s (length out)) 0 z) refl
 
 -- ---- the sheet in the edition v
 module _ (v : Edition) (s : List ℕ) (h : Sheet s) (d : Has v s) where
-  abbrev new : List ℕ
-  new = inEdition v s
-
-  is-in : Sheet new
+  is-in : Sheet (inEdition v s)
   is-in = sheet-in v s h d
 
-  back : (into : List ℕ) → length s ≤ length into → Writes (editionIn s) new into s
+  back : (into : List ℕ) → length s ≤ length into → Writes (editionIn s) (inEdition v s) into s
   back into r =
       let l = length-in v s in
-      rw (in-back v s (h .size)) at (writes (editionIn s) new into is-in (no-four-in v s h) (omega arith))
+      rw (in-back v s (h .size)) at (writes (editionIn s) (inEdition v s) into is-in (no-series-in v s h) (omega arith))
 
-  same-check : (e : ℕ) → checkEntryOf new e ≡ checkEntryOf s e
-  same-check e = rw (sheet-check new is-in, sheet-check s h, entries-in v s) refl
+  same-check : (e : ℕ) → checkEntryOf (inEdition v s) e ≡ checkEntryOf s e
+  same-check e = rw (sheet-check (inEdition v s) is-in, sheet-check s h, entries-in v s) refl
 
-  same-lookup : (e : ℕ) → lookupOf new e ≡ lookupOf s e
+  same-lookup : (e : ℕ) → lookupOf (inEdition v s) e ≡ lookupOf s e
   same-lookup e = rw (same-check e, setting-in v s e) refl
 
-  old-reader : v ≡ One → OldReader s new
+  old-reader : v ≡ One → OldReader s (inEdition v s)
   old-reader p =
-      let b : getD new 1 0 ≡ 0 = byte-in v s (long s h) ∙ rw p refl in
-      let a = both-editions .agreed new (λ e. omega arith) in
+      let b : getD (inEdition v s) 1 0 ≡ 0 = byte-in v s (long s h) ∙ rw p refl in
+      let a = both-editions .agreed (inEdition v s) (λ e. omega arith) in
       record {
-        check = a .check ∙ sheet-check new is-in;
+        check = a .check ∙ sheet-check (inEdition v s) is-in;
         entry = λ e. a .entry e ∙ same-check e;
         lookup = λ e. a .lookup e ∙ same-lookup e;
       }
 
-  made : (out : List ℕ) → length s ≤ length out → Converted v s out new
+  made : (out : List ℕ) → length s ≤ length out → Converted v s out (inEdition v s)
   made out r =
       record {
         writes = writes v s out h d r;
@@ -100,41 +92,41 @@ module _ (v : Edition) (s : List ℕ) (h : Sheet s) (d : Has v s) where
         old-reader = old-reader;
       }
 
-  pub library-in : libraryOf new ≡ inLibrary v (libraryOf s)
+  library-in : libraryOf (inEdition v s) ≡ withEdition v (libraryOf s)
   library-in =
       let n = entries-in v s in
       let w = edition-in v s (long s h) in
-      let k : libraryOf new .kinds ≡ libraryOf s .kinds = rw (n, behind-in v s 0) refl in
-      let t : libraryOf new .settings ≡ libraryOf s .settings = rw (n, behind-in v s (entriesOf s)) refl in
+      let k : libraryOf (inEdition v s) .kinds ≡ libraryOf s .kinds = rw (n, behind-in v s 0) refl in
+      let t : libraryOf (inEdition v s) .settings ≡ libraryOf s .settings = rw (n, behind-in v s (entriesOf s)) refl in
       λ i. record { n = n i; edition = w i; kinds = k i; settings = t i }
 
-  as-write : (out : List ℕ) → AsWrite v s out (libraryOf new)
+  as-write : (out : List ℕ) → AsWrite v s out (libraryOf (inEdition v s))
   as-write out = go (below (length out) (length s))
     where
-      f : Fits (entriesOf new) new
+      f : Fits (entriesOf (inEdition v s)) (inEdition v s)
       f = is-in .size .fits
 
-      go : (length out < length s) ⊎ (length s ≤ length out) → AsWrite v s out (libraryOf new)
+      go : (length out < length s) ⊎ (length s ≤ length out) → AsWrite v s out (libraryOf (inEdition v s))
       go (inl r) =
           let z = too-short s (length out) h v d r in
           let l = length-in v s in
           let k = f .long in
-          let q = write-short (entriesOf new) (length out) (f .some) (f .most) (omega arith) in
+          let q = write-short (entriesOf (inEdition v s)) (length out) (f .some) (f .most) (omega arith) in
           record { answer = rw (z, ← q) refl; bytes = rw (z, ← q) (sym (over-none 0 out)) }
       go (inr r) =
           let l = length-in v s in
           let w = writes v s out h d r in
-          let q = rewritten new is-in out (omega arith) in
+          let q = rewritten (inEdition v s) is-in out (omega arith) in
           record { answer = w .answer ∙ sym (q .answer); bytes = w .bytes ∙ sym (q .bytes) }
 
 -- ---- all of them
 
 -- the first bytes of what was written are the sheet
-is-written : {v : Edition} {s out t : List ℕ} → Writes v s out t → converted v s out ≡ t
+is-written : {v : Edition} {s out t : List ℕ} → Writes v s out t → writtenSheet v s out ≡ t
 is-written {v} {s} {out} {t} w =
     ap (λ (r : Written). take (r .length) (convertedOf v s out)) (w .answer) ∙ ap (take (length t)) (w .bytes) ∙ take-append-seam t (drop (length t) out)
 
-pub accepted-converted : (v : Edition) (s out : List ℕ) → convertOf v s out .number ≡ 0 → Converted v s out (converted v s out)
+pub accepted-converted : (v : Edition) (s out : List ℕ) → convertOf v s out .number ≡ 0 → Converted v s out (writtenSheet v s out)
 accepted-converted v s out z =
     let t = taken v s (length out) z in
     let m = made v s (t .sheet) (t .has) out (t .room) in
@@ -147,7 +139,7 @@ conversions =
       refused = refused;
       up = λ s out h. exactly (up s (length out) h);
       down = λ s out h. exactly (down s (length out) h);
-      four = λ s out h. (told-four s (length out) h, tells-four s (length out) h);
+      series = λ s out h. (told-series s (length out) h, tells-series s (length out) h);
       copied = copied;
       as-write = λ v s out h n. let d = has-of v s (length out) h n in rw (library-in v s h d) at (as-write v s h d out);
     }

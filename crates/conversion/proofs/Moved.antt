@@ -4,20 +4,21 @@ use mathlib.Core.Path.{_≡_, refl, sym, ap, _∙_}
 use mathlib.Core.List.{List}
 use mathlib.Core.Logic.{_⊎_, inl, inr, ⊎-elim}
 use native.Mathlib.Omega.{arith}
-use lib.ListN.{length, getD, set, drop, length-set}
+use lib.ListN.{length, getD, drop, length-set}
 use lib.Seq.{getD-set-same, getD-set-other, drop-set-lt, set-set, set-getD}
 use Rattle.filter_core.specs.Rows.{none, later}
-use Rattle.filter_core.proofs.Rows.{passed, same}
-use Rattle.sheets.specs.Edition.{editionByte, editionOf}
-use Rattle.sheets.specs.Sheet.{entriesOf, editionIn, kindAt, settingAt, entryIn, Sized}
+use Rattle.filter_core.proofs.Rows.{passed}
+use Rattle.sheets.specs.Edition.{editionByte}
+use Rattle.sheets.specs.Sheet.{entriesOf, editionIn, settingAt, entryIn, Sized}
 use Rattle.sheets.specs.Rows.{KindWrong, no-kind, past-kinds, past-approximations, past-edition-1, not-exact, EntryCase, wrong-kind, wrong-words, wrong-frequency, EntryRow, Sheet}
 use Rattle.sheets.specs.declared.edition.Edition.{Edition}
 use Rattle.sheets.specs.declared.edition.Edition.the-variants.{One, Two}
 use Rattle.sheets.specs.declared.entry.Entry.{Entry}
-use Rattle.sheets.proofs.Checks.{edition-back}
+use Rattle.sheets.proofs.Checks.{edition-named, edition-of-byte, edition-back}
 use Rattle.sheets.proofs.Editions.{same-setting, same-entry}
-use Rattle.conversion.specs.Rows.{UsesFour}
+use Rattle.conversion.specs.Rows.{UsesSeries}
 use Rattle.conversion.specs.Converted.{inEdition}
+use Rattle.conversion.proofs.Rows.{two-is-not-one, Has}
 
 -- ---- an entry is judged by its sheet's second byte in approximation 4 alone
 
@@ -44,27 +45,19 @@ module _ {b c : ℕ} where
 
 -- ---- a sheet of edition 1 uses approximation 4 nowhere
 
-pub one-has-no-four : (s : List ℕ) → Sheet s → editionIn s ≡ One → UsesFour s → ⊥
-one-has-no-four s h o u =
+pub one-has-no-series : (s : List ℕ) → Sheet s → editionIn s ≡ One → UsesSeries s → ⊥
+one-has-no-series s h o u =
     passed (h .entries (u .entry) (u .inside)) (λ z. omega arith) .0
-    (wrong-kind (past-edition-1 (λ e. let v : Two ≡ One = rw e at o in let z : _≡_ {A = ℕ} 0 1 = cc in omega arith) (omega (arith, u .four))))
+    (wrong-kind (past-edition-1 (λ e. two-is-not-one (rw e at o)) (omega (arith, u .series))))
 
 -- ---- the sheet in an edition
-
-edition-byte : (v : Edition) → (editionByte v ≡ 0) ⊎ (editionByte v ≡ 2)
-edition-byte One = inl refl
-edition-byte Two = inr refl
-
-edition-of-byte : (v : Edition) → editionOf (editionByte v) ≡ v
-edition-of-byte One = refl
-edition-of-byte Two = refl
 
 -- a sheet has a second byte
 pub long : (s : List ℕ) → Sheet s → 1 < length s
 long s h = let l = h .size .fits .long in omega arith
 
 module _ (v : Edition) (s : List ℕ) where
-  abbrev new : List ℕ
+  abbrev pub new : List ℕ
   new = inEdition v s
 
   pub length-in : length new ≡ length s
@@ -89,16 +82,16 @@ module _ (v : Edition) (s : List ℕ) where
     pub edition-in : editionIn new ≡ v
     edition-in = rw byte-in (edition-of-byte v)
 
-  uses-in : UsesFour new → UsesFour s
+  uses-in : UsesSeries new → UsesSeries s
   uses-in u =
       record {
         entry = u .entry;
         inside = let w = entries-in in let l = u .inside in omega arith;
-        four = let w = ap (λ (t : Entry). t .kind / 16) (entry-in (u .entry)) in sym w ∙ u .four;
+        series = let w = ap (λ (t : Entry). t .kind / 16) (entry-in (u .entry)) in sym w ∙ u .series;
       }
 
   -- it is one where the edition has all that the sheet uses
-  module _ (h : Sheet s) (d : v ≡ One → UsesFour s → ⊥) where
+  module _ (h : Sheet s) (d : Has v s) where
     sized-in : Sized new
     sized-in =
         let f = h .size .fits in
@@ -108,13 +101,13 @@ module _ (v : Edition) (s : List ℕ) where
         let b = f .most in
         let c = f .long in
         record {
-          edition = rw (byte-in (long s h)) (edition-byte v);
+          edition = rw (byte-in (long s h)) (edition-named v);
           fits = record { some = omega arith; most = omega arith; long = omega arith };
         }
 
-    taken : (w : Edition) → v ≡ w → (e : ℕ) → e < entriesOf s → (editionByte w ≡ 2) ⊎ (entryIn s e .kind / 16 ≡ 4 → ⊥)
-    taken One p e l = inr (λ q. d p (record { entry = e; inside = l; four = q }))
-    taken Two p e l = inl refl
+    moves : (w : Edition) → v ≡ w → (e : ℕ) → e < entriesOf s → (editionByte w ≡ 2) ⊎ (entryIn s e .kind / 16 ≡ 4 → ⊥)
+    moves One p e l = inr (λ q. d p (record { entry = e; inside = l; series = q }))
+    moves Two p e l = inl refl
 
     pub sheet-in : Sheet new
     sheet-in =
@@ -124,7 +117,7 @@ module _ (v : Edition) (s : List ℕ) where
               λ e l.
               let n = entries-in in
               let m : e < entriesOf s = omega arith in
-              rw (byte-in (long s h), entry-in e) (row-moved (taken v refl e m) (h .entries e m));
+              rw (byte-in (long s h), entry-in e) (row-moved (moves v refl e m) (h .entries e m));
         }
 
 -- and with its own edition's byte again it is itself
@@ -134,5 +127,5 @@ in-back v s z = set-set s 1 (editionByte v) (editionByte (editionIn s)) ∙ rw (
 pub in-own : (s : List ℕ) → Sized s → inEdition (editionIn s) s ≡ s
 in-own s z = rw (edition-back (z .edition)) (set-getD s 1 0)
 
-pub no-four-in : (v : Edition) (s : List ℕ) → Sheet s → editionIn s ≡ One → UsesFour (inEdition v s) → ⊥
-no-four-in v s h o u = one-has-no-four s h o (uses-in v s u)
+pub no-series-in : (v : Edition) (s : List ℕ) → Sheet s → editionIn s ≡ One → UsesSeries (inEdition v s) → ⊥
+no-series-in v s h o u = one-has-no-series s h o (uses-in v s u)

@@ -1,8 +1,9 @@
 -- A conversion by its steps. Assumes nothing.
 use Prim.Native.Nat.{ℕ}
-use mathlib.Core.Path.{_≡_}
+use mathlib.Core.Path.{_≡_, _∙_}
 use mathlib.Core.List.{List, [], _∷_}
 use borrow.Author.Needs.{needs}
+use Rattle.filter_core.specs.Refusal.{unlessRefused}
 use Rattle.filter_core.proofs.Refusals.{stays, goes}
 use Rattle.lists.specs.Over.{over}
 use Rattle.sheets.specs.Sheet.{entriesOf}
@@ -10,7 +11,7 @@ use Rattle.sheets.specs.declared.edition.Edition.{Edition}
 use Rattle.sheets.specs.declared.edition.Edition.the-variants.{One}
 use Rattle.sheets.proofs.Checks.{steps}
 use Rattle.library.specs.declared.Written.{Written}
-use Rattle.conversion.specs.Conversion.{seriesRefusal, entriesRefusal, editionRefusal}
+use Rattle.conversion.specs.Conversion.{seriesRefusal, seriesAmong, wantedRefusal}
 
 -- ---- the refusals
 
@@ -21,7 +22,7 @@ of-byte k p q = rw (← p) q
 pub ruleset scanning = (of-byte, steps)
 
 -- of a sheet that is wanted in edition 1
-pub in-edition-1 : (s : List ℕ) {v : Edition} {n r : ℕ} → v ≡ One → n ≡ entriesOf s → r ≡ entriesRefusal n s → r ≡ editionRefusal v s
+pub in-edition-1 : (s : List ℕ) {v : Edition} {n r : ℕ} → v ≡ One → n ≡ entriesOf s → r ≡ seriesAmong n s → r ≡ wantedRefusal v s
 in-edition-1 s p q h = rw (p, ← q) h
 
 pub ruleset wanting = (in-edition-1, needs)
@@ -36,4 +37,8 @@ byte-put s out b p q h = rw (← p, ← q) h
 pub answer : {r k n l : ℕ} → r ≡ n → k ≡ l → _≡_ {A = Written} (record { number = r; length = k }) (record { number = n; length = l })
 answer p q = λ i. record { number = p i; length = q i }
 
-pub ruleset converting = (byte-put, answer, stays, goes, needs)
+-- what a refused call leaves
+pub leaves : {A : Type 0} {n r : ℕ} {x : A} (was made : A) → n ≡ r → (n ≡ 0 → ⊥) → x ≡ was → x ≡ unlessRefused r was made
+leaves was made e z p = p ∙ stays was made e z
+
+pub ruleset converting = (byte-put, answer, leaves, goes, needs)

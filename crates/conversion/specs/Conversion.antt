@@ -2,11 +2,12 @@
 use Prim.Native.Nat.{ℕ, _/_}
 use mathlib.Core.Bool.{cond}
 use mathlib.Core.List.{List, [], _∷_}
-use lib.Dec.{eqb, ltb}
+use lib.Dec.{eqb}
 use lib.ListN.{length}
 use Rattle.filter_core.specs.Refusal.{unlessRefused}
 use Rattle.filter_core.specs.Rows.{_then_}
 use Rattle.lists.specs.Over.{over}
+use Rattle.lists.specs.Room.{roomRefusal}
 use Rattle.sheets.specs.Edition.{editionByte}
 use Rattle.sheets.specs.Refusal.{firstRefusal}
 use Rattle.sheets.specs.Sheet.{entriesOf, kindAt, checkOf}
@@ -21,23 +22,19 @@ abbrev pub seriesRefusal : ℕ → ℕ
 seriesRefusal kind = cond (eqb (kind / 16) 4) 15 0
 
 -- for the first n entries
-abbrev pub entriesRefusal : ℕ → List ℕ → ℕ
-entriesRefusal n s = firstRefusal n (λ e. seriesRefusal (kindAt s e))
+abbrev pub seriesAmong : ℕ → List ℕ → ℕ
+seriesAmong n s = firstRefusal n (λ e. seriesRefusal (kindAt s e))
 
 -- for a sheet that is wanted in an edition; edition 2 has all that there is
-abbrev pub editionRefusal : Edition → List ℕ → ℕ
-editionRefusal One s = entriesRefusal (entriesOf s) s
-editionRefusal Two s = 0
+abbrev pub wantedRefusal : Edition → List ℕ → ℕ
+wantedRefusal One s = seriesAmong (entriesOf s) s
+wantedRefusal Two s = 0
 
--- `short` of the refusal table, for a sheet of l bytes and an output of m places
-abbrev pub roomRefusal : ℕ → ℕ → ℕ
-roomRefusal l m = cond (ltb m l) 12 0
-
--- the number that opening s gives, then 15, then 12
+-- the number that opening s gives, then 15, then 12 for an output of m places
 abbrev pub convertRefusal : Edition → List ℕ → ℕ → ℕ
-convertRefusal v s m = checkOf s then editionRefusal v s then roomRefusal (length s) m
+convertRefusal v s m = checkOf s then wantedRefusal v s then roomRefusal (length s) m
 
--- ---- the answer, and the output as it is left: where the call is refused, the length 0, and as it was
+-- ---- a refused call answers the length 0 and leaves the output as it was
 
 abbrev pub convertOf : Edition → List ℕ → List ℕ → Written
 convertOf v s out = record { number = convertRefusal v s (length out); length = unlessRefused (convertRefusal v s (length out)) 0 (length s) }

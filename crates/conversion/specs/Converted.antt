@@ -13,15 +13,15 @@ use Rattle.sheets.specs.declared.edition.Edition.the-variants.{One, Two}
 use Rattle.library.specs.Library.{libraryOf, writeOf, writtenOf}
 use Rattle.library.specs.declared.Library.{Library}
 use Rattle.conversion.specs.Conversion.{convertOf, convertedOf}
-use Rattle.conversion.specs.Rows.{UsesFour, ConvertCase}
+use Rattle.conversion.specs.Rows.{UsesSeries, ConvertCase}
 
 -- the sheet s with the second byte of the edition v
 abbrev pub inEdition : Edition → List ℕ → List ℕ
 inEdition v s = set s 1 (editionByte v)
 
 -- the sheet that a conversion wrote: as many bytes of the output as it answers
-abbrev pub converted : Edition → List ℕ → List ℕ → List ℕ
-converted v s out = take (convertOf v s out .length) (convertedOf v s out)
+abbrev pub writtenSheet : Edition → List ℕ → List ℕ → List ℕ
+writtenSheet v s out = take (convertOf v s out .length) (convertedOf v s out)
 
 -- the conversion of s to the edition v writes t, all of it, and leaves what stood behind
 pub record Writes (v : Edition) (s out t : List ℕ) : Type 0 where
@@ -29,7 +29,7 @@ pub record Writes (v : Edition) (s out t : List ℕ) : Type 0 where
   pub bytes : convertedOf v s out ≡ t ++ drop (length t) out
 
 -- t has the entries of s, under the same numbers
-pub record SameEntries (s t : List ℕ) : Type 0 where
+pub record HasEntries (s t : List ℕ) : Type 0 where
   pub number : entriesOf t ≡ entriesOf s
   pub entry : (e : ℕ) → entryIn t e ≡ entryIn s e
 
@@ -45,14 +45,14 @@ pub record Converted (v : Edition) (s out t : List ℕ) : Type 0 where
   pub bytes : t ≡ inEdition v s
   pub sheet : Sheet t
   pub edition : editionIn t ≡ v
-  pub entries : SameEntries s t
+  pub entries : HasEntries s t
   -- converted back, t is s again, in any output that has room
   pub back : (into : List ℕ) → length s ≤ length into → Writes (editionIn s) t into s
   pub old-reader : v ≡ One → OldReader s t
 
 -- the library l as one of the edition v
-abbrev pub inLibrary : Edition → Library → Library
-inLibrary v l = record { n = l .n; edition = v; kinds = l .kinds; settings = l .settings }
+abbrev pub withEdition : Edition → Library → Library
+withEdition v l = record { n = l .n; edition = v; kinds = l .kinds; settings = l .settings }
 
 -- what converting s does is what writing the library l does
 pub record AsWrite (v : Edition) (s out : List ℕ) (l : Library) : Type 0 where
@@ -60,15 +60,15 @@ pub record AsWrite (v : Edition) (s out : List ℕ) (l : Library) : Type 0 where
   pub bytes : convertedOf v s out ≡ writtenOf l out
 
 pub record Conversions : Type 0 where
-  pub accepted : (v : Edition) (s out : List ℕ) → convertOf v s out .number ≡ 0 → Converted v s out (converted v s out)
+  pub accepted : (v : Edition) (s out : List ℕ) → convertOf v s out .number ≡ 0 → Converted v s out (writtenSheet v s out)
   -- a refused one leaves every byte
   pub refused : (v : Edition) (s out : List ℕ) → (convertOf v s out .number ≡ 0 → ⊥) → convertedOf v s out ≡ out
   -- a sheet to edition 2: 12 is its only refusal
   pub up : (s out : List ℕ) → Sheet s → Exactly (ConvertCase Two s (length out)) (12 ∷ []) (convertOf Two s out .number)
   -- a sheet to edition 1: 15 and 12 are, and 15 is given exactly where an entry uses approximation 4
   pub down : (s out : List ℕ) → Sheet s → Exactly (ConvertCase One s (length out)) (15 ∷ 12 ∷ []) (convertOf One s out .number)
-  pub four : (s out : List ℕ) → Sheet s → (convertOf One s out .number ≡ 15 → UsesFour s) × (UsesFour s → convertOf One s out .number ≡ 15)
+  pub series : (s out : List ℕ) → Sheet s → (convertOf One s out .number ≡ 15 → UsesSeries s) × (UsesSeries s → convertOf One s out .number ≡ 15)
   -- a sheet that is in the wanted edition already is copied
   pub copied : (s out : List ℕ) → Sheet s → length s ≤ length out → Writes (editionIn s) s out s
   -- an answer other than 15 is that of write, and so is the output, where the library has the wanted edition
-  pub as-write : (v : Edition) (s out : List ℕ) → Sheet s → (convertOf v s out .number ≡ 15 → ⊥) → AsWrite v s out (inLibrary v (libraryOf s))
+  pub as-write : (v : Edition) (s out : List ℕ) → Sheet s → (convertOf v s out .number ≡ 15 → ⊥) → AsWrite v s out (withEdition v (libraryOf s))

@@ -11,14 +11,14 @@ use Rattle.sheets.specs.declared.edition.Edition.the-variants.{One}
 use Rattle.conversion.specs.Conversion.{convertOf}
 
 -- an entry of s uses approximation 4; kind byte = kind + 16 * approximation
-pub record UsesFour (s : List ℕ) : Type 0 where
+pub record UsesSeries (s : List ℕ) : Type 0 where
   pub entry : ℕ
   pub inside : entry < entriesOf s
-  pub four : kindAt s entry / 16 ≡ 4
+  pub series : kindAt s entry / 16 ≡ 4
 
 -- the numbers of a sheet s that is wanted in the edition v, for an output of m places
 pub data ConvertCase (v : Edition) (s : List ℕ) (m : ℕ) : ℕ → Type 0 where
-  not-in-edition-1 : v ≡ One → UsesFour s → ConvertCase v s m 15
+  not-in-edition-1 : v ≡ One → UsesSeries s → ConvertCase v s m 15
   short : m < 2 + 13 * entriesOf s → ConvertCase v s m 12
 
 -- what is no sheet gets the number that open gives it; a sheet 15, then 12

@@ -3,9 +3,7 @@
 use library::Written;
 use sheets::Edition;
 ghost use mathlib.Core.Path.{_≡_};
-ghost use Rattle.sheets.specs.Refusal.{firstRefusal};
-ghost use Rattle.sheets.specs.Sheet.{kindAt};
-ghost use Rattle.conversion.specs.Conversion.{seriesRefusal, entriesRefusal, editionRefusal, roomRefusal, convertRefusal, convertOf, convertedOf};
+ghost use Rattle.conversion.specs.Conversion.{seriesRefusal, seriesAmong, wantedRefusal, convertRefusal, convertOf, convertedOf};
 ghost use Rattle.conversion.specs.Rows.{ConvertByRows};
 ghost use Rattle.conversion.specs.Converted.{Conversions};
 
@@ -18,42 +16,36 @@ fn series_refusal(kind: u8) -> u8
     if kind / 16 == 4 { 15 } else { 0 }
 }
 
-fn entries_refusal(n: usize, sheet: &[u8]) -> u8
-    ensures { λ r. ⌜ r ≡ entriesRefusal n (now (sheet .entry)) ⌝ }
+fn series_among(n: usize, sheet: &[u8]) -> u8
+    ensures { λ r. ⌜ r ≡ seriesAmong n (now (sheet .entry)) ⌝ }
 {
     let mut e = 0;
     while e < n {
-        let four = series_refusal(words::byte_at(sheet, 2, e));
-        if four != 0 {
-            return four;
+        let series = series_refusal(words::byte_at(sheet, 2, e));
+        if series != 0 {
+            return series;
         }
         e += 1;
     }
     0
 }
 
-fn edition_refusal(wanted: Edition, sheet: &[u8]) -> u8
-    ensures { λ r. ⌜ r ≡ editionRefusal wanted (now (sheet .entry)) ⌝ }
+fn wanted_refusal(wanted: Edition, sheet: &[u8]) -> u8
+    ensures { λ r. ⌜ r ≡ wantedRefusal wanted (now (sheet .entry)) ⌝ }
 {
     match wanted {
-        Edition::One => entries_refusal(sheets::entries(sheet), sheet),
+        Edition::One => series_among(sheets::entries(sheet), sheet),
         Edition::Two => 0,
     }
-}
-
-fn room_refusal(length: usize, room: usize) -> u8
-    ensures { λ r. ⌜ r ≡ roomRefusal length room ⌝ }
-{
-    if room < length { 12 } else { 0 }
 }
 
 fn convert_refusal(wanted: Edition, sheet: &[u8], room: usize) -> u8
     ensures { λ r. ⌜ r ≡ convertRefusal wanted (now (sheet .entry)) room ⌝ }
 {
     let open = sheets::check(sheet);
-    let edition = edition_refusal(wanted, sheet);
-    let short = room_refusal(sheet.len(), room);
-    filter_core::then(open, filter_core::then(edition, short))
+    let series = wanted_refusal(wanted, sheet);
+    let short = lists::room_refusal(sheet.len(), room);
+    filter_core::then(open, filter_core::then(series, short))
 }
 
 // ---- the converter
@@ -64,7 +56,8 @@ pub fn convert(wanted: Edition, sheet: &[u8], output: &mut [u8]) -> Written
     ensures { λ r. ⌜ r ≡ convertOf wanted (now (sheet .entry)) (now (output .entry)) ⌝ }
     ensures { λ _. ⌜ now (output .exit) ≡ convertedOf wanted (now (sheet .entry)) (now (output .entry)) ⌝ }
 {
-    let number = convert_refusal(wanted, sheet, output.len());
+    let room = output.len();
+    let number = convert_refusal(wanted, sheet, room);
     if number != 0 {
         return Written {
             number: number,

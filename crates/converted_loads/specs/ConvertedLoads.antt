@@ -5,7 +5,7 @@ use mathlib.Core.List.{List}
 use Rattle.sheets.specs.Sheet.{entryIn}
 use Rattle.sheets.specs.declared.edition.Edition.{Edition}
 use Rattle.conversion.specs.Conversion.{convertOf}
-use Rattle.conversion.specs.Converted.{converted}
+use Rattle.conversion.specs.Converted.{writtenSheet}
 use Rattle.loads.specs.Load.{filterOf}
 use Rattle.frame.specs.Call.{opening, loading}
 use Rattle.frame.specs.Calls.{Done, perform}
@@ -31,4 +31,4 @@ pub record LoadsAlike (s t : List ℕ) (e : ℕ) : Type 0 where
   pub history : (H : Histories) (h j : ℕ) → loadedFrom H t h e .heads j ≡ loadedFrom H s h e .heads j
 
 abbrev pub ConvertedLoads : Type 0
-ConvertedLoads = (v : Edition) (s out : List ℕ) → convertOf v s out .number ≡ 0 → (e : ℕ) → LoadsAlike s (converted v s out) e
+ConvertedLoads = (v : Edition) (s out : List ℕ) → convertOf v s out .number ≡ 0 → (e : ℕ) → LoadsAlike s (writtenSheet v s out) e
