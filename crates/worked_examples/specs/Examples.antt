@@ -24,7 +24,7 @@ use Rattle.crossover_svf.specs.CrossoverSvf.{crossoverNext, crossoverOut, zeros
 use Rattle.crossover_svf.specs.declared.CrossoverSvf.{CrossoverSvf}
 use Rattle.sheets.specs.Sheet.{checkOf}
 use Rattle.sheets.specs.EditionOne.{checkOne, lookupOne}
-use Rattle.sheets.specs.declared.edition.Edition.the-variants.{One}
+use Rattle.sheets.specs.declared.edition.Edition.the-variants.{One, Two}
 use Rattle.library.specs.Library.{zeroBytes, libraryOf, bytesOf, entryAt}
 use Rattle.conversion.specs.Conversion.{convertOf, convertedOf}
 use Rattle.any_filter.specs.declared.Filter.the-variants.{Dc, OnePole as OnePoleIn}
@@ -113,6 +113,10 @@ threeEditions = opening (seriesSheet 2) ∷ opening (seriesSheet 0) ∷ opening 
 -- the same in Accurate, which both editions have
 abbrev pub accurateSheet : ℕ → List ℕ
 accurateSheet v = 0x01 ∷ v ∷ 0x12 ∷ 0x00 ∷ 0x00 ∷ 0x00 ∷ 0x3f ∷ zeroBytes 8
+
+-- an output with room for a byte more than these
+abbrev pub longer : List ℕ
+longer = zeroBytes 15 ++ 0xee ∷ []
 
 -- ---- the table
 
@@ -204,9 +208,11 @@ pub record WorkedExamples : Type 0 where
   pub edition-filter : filterOf (entryAt (libraryOf (seriesSheet 2)) 0) ≡ OnePoleIn (word 0x4129_e2fd) (word 0x3db0_478a) zeroᶠ
   pub edition-declined : checkOne (seriesSheet 2) ≡ 2
   pub edition-not-shown : lookupOne (seriesSheet 2) 0 ≡ []
-  -- document 02, f: the sheet in Accurate becomes one of edition 1, and the place behind it is kept; a byte too little is refused with 12. The
-  -- one in approximation 4 is refused with 15, which comes first
-  pub converted-answer : convertOf One (accurateSheet 2) (zeroBytes 16) ≡ record { number = 0; length = 15 }
-  pub converted-bytes : convertedOf One (accurateSheet 2) (zeroBytes 15 ++ 0xee ∷ []) ≡ accurateSheet 0 ++ 0xee ∷ []
+  -- document 02, f: the sheet in Accurate becomes one of edition 1 and goes back, and the place behind it is kept; one of edition 2 is copied to
+  -- edition 2. A byte too little is refused with 12; approximation 4 in edition 1 with 15, which comes first
+  pub converted-answer : convertOf One (accurateSheet 2) longer ≡ record { number = 0; length = 15 }
+  pub converted-bytes : convertedOf One (accurateSheet 2) longer ≡ accurateSheet 0 ++ 0xee ∷ []
+  pub converted-back : convertedOf Two (accurateSheet 0) longer ≡ accurateSheet 2 ++ 0xee ∷ []
+  pub converted-copy : convertedOf Two (seriesSheet 2) longer ≡ seriesSheet 2 ++ 0xee ∷ []
   pub converted-short : convertOf One (accurateSheet 2) (zeroBytes 14) ≡ record { number = 12; length = 0 }
   pub not-converted : convertOf One (seriesSheet 2) (zeroBytes 14) ≡ record { number = 15; length = 0 }

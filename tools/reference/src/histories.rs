@@ -348,7 +348,7 @@ impl Writer {
         }
     }
 
-    // An output for a sheet of so many bytes: one in four is too short, one as long.
+    // An output for a sheet of so many bytes: one in four as long, one a byte too short, one a little longer, one by chance.
     fn output(&mut self, length: usize) -> Vec<u8> {
         let length = length as u64;
         let n = match self.numbers.below(4) {

@@ -99,33 +99,30 @@ pub fn lookup(check: Check, sheet: &[u8], e: u64) -> &[u8] {
     &sheet[at..at + 12]
 }
 
-/// The edition of a sheet that was accepted.
-pub fn edition(sheet: &[u8]) -> u8 {
-    match sheet[1] {
-        0 => 1,
-        second => second,
-    }
+/// The edition of a sheet that was accepted: 1 or 2.
+pub fn edition(sheet: &[u8]) -> usize {
+    1 + EDITIONS.iter().position(|row| row.0 == sheet[1]).unwrap()
 }
 
-/// Whether a sheet that was accepted has an entry with approximation 4.
-pub fn uses_4(sheet: &[u8]) -> bool {
+// Whether a sheet that was accepted has an entry with approximation 4.
+fn uses_series(sheet: &[u8]) -> bool {
     (0..entries(sheet)).any(|entry| kind(sheet, entry).1 == 4)
 }
 
 /// 02 f: the sheet in edition 1 or 2 into the output. The length that was written, or the refusal.
-pub fn convert(wanted: u8, sheet: &[u8], out: &mut [u8]) -> Result<usize, u8> {
+pub fn convert(wanted: usize, sheet: &[u8], out: &mut [u8]) -> Result<usize, u8> {
     match check(sheet) {
         0 => {}
         number => return Err(number),
     }
-    if wanted == 1 && uses_4(sheet) {
+    if wanted == 1 && uses_series(sheet) {
         return Err(15);
     }
     let Some(to) = out.get_mut(..sheet.len()) else {
         return Err(12);
     };
     to.copy_from_slice(sheet);
-    (to[1], _) = EDITIONS[usize::from(wanted) - 1];
+    (to[1], _) = EDITIONS[wanted - 1];
     Ok(sheet.len())
 }
 

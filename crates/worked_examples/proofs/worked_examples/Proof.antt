@@ -53,6 +53,8 @@ computed =
       edition-not-shown = refl;
       converted-answer = refl;
       converted-bytes = refl;
+      converted-back = refl;
+      converted-copy = refl;
       converted-short = refl;
       not-converted = refl;
     }
