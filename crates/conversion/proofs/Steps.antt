@@ -1,9 +1,8 @@
 -- A conversion by its steps. Assumes nothing.
 use Prim.Native.Nat.{ℕ}
-use mathlib.Core.Path.{_≡_, _∙_}
+use mathlib.Core.Path.{_≡_}
 use mathlib.Core.List.{List, [], _∷_}
 use borrow.Author.Needs.{needs}
-use Rattle.filter_core.specs.Refusal.{unlessRefused}
 use Rattle.filter_core.proofs.Refusals.{stays, goes}
 use Rattle.lists.specs.Over.{over}
 use Rattle.sheets.specs.Sheet.{entriesOf}
@@ -37,8 +36,4 @@ byte-put s out b p q h = rw (← p, ← q) h
 pub answer : {r k n l : ℕ} → r ≡ n → k ≡ l → _≡_ {A = Written} (record { number = r; length = k }) (record { number = n; length = l })
 answer p q = λ i. record { number = p i; length = q i }
 
--- what a refused call leaves
-pub leaves : {A : Type 0} {n r : ℕ} {x : A} (was made : A) → n ≡ r → (n ≡ 0 → ⊥) → x ≡ was → x ≡ unlessRefused r was made
-leaves was made e z p = p ∙ stays was made e z
-
-pub ruleset converting = (byte-put, answer, leaves, goes, needs)
+pub ruleset converting = (byte-put, answer, stays, goes, needs)

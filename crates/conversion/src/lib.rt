@@ -56,8 +56,7 @@ pub fn convert(wanted: Edition, sheet: &[u8], output: &mut [u8]) -> Written
     ensures { λ r. ⌜ r ≡ convertOf wanted (now (sheet .entry)) (now (output .entry)) ⌝ }
     ensures { λ _. ⌜ now (output .exit) ≡ convertedOf wanted (now (sheet .entry)) (now (output .entry)) ⌝ }
 {
-    let room = output.len();
-    let number = convert_refusal(wanted, sheet, room);
+    let number = convert_refusal(wanted, sheet, output.len());
     if number != 0 {
         return Written {
             number: number,
