@@ -4,9 +4,9 @@ use mathlib.Core.Path.{_≡_, refl, sym, ap, _∙_}
 use mathlib.Core.List.{List, [], _∷_}
 use mathlib.Core.Logic.{_⊎_, inl, inr}
 use native.Mathlib.Omega.{arith}
-use borrow.Author.Tests.{ne-eqb}
 use lib.ListN.{length, getD, set, take, drop, length-set}
 use lib.Seq.{take-append-seam, set-append-left}
+use Rattle.filter_core.proofs.Refusals.{stays}
 use Rattle.filter_core.proofs.Rows.{below, exactly}
 use Rattle.lists.specs.Over.{over}
 use Rattle.lists.proofs.Over.{over-none, over-all, over-one, length-over}
@@ -21,7 +21,7 @@ use Rattle.library.specs.Library.{libraryOf}
 use Rattle.library.specs.declared.Written.{Written}
 use Rattle.library.proofs.RoundTrip.{rewritten}
 use Rattle.library.proofs.Rows.{write-short}
-use Rattle.conversion.specs.Conversion.{convertRefusal, convertOf, convertedOf}
+use Rattle.conversion.specs.Conversion.{convertRefusal, putOver, convertOf, convertedOf}
 use Rattle.conversion.specs.Converted.{inEdition, writtenSheet, Writes, OldReader, Converted, withEdition, AsWrite, Conversions}
 use Rattle.conversion.proofs.Rows.{up, down, told-series, tells-series, Has, too-short, accepted, taken}
 use Rattle.conversion.proofs.Moved.{length-in, entries-in, behind-in, setting-in, entry-in, byte-in, edition-in, long, sheet-in, in-back, in-own, one-has-no-series, no-series-in}
@@ -52,7 +52,7 @@ copied : (s out : List ℕ) → Sheet s → length s ≤ length out → Writes (
 copied s out h r = rw (in-own s (h .size)) at (writes (editionIn s) s out h (one-has-no-series s h) r)
 
 refused : (v : Edition) (s out : List ℕ) → (convertOf v s out .number ≡ 0 → ⊥) → convertedOf v s out ≡ out
-refused v s out z = rw (ne-eqb (convertRefusal v s (length out)) 0 z) refl
+refused v s out z = sym (stays out (putOver v s out) (refl {a = convertRefusal v s (length out)}) z)
 
 -- ---- the sheet in the edition v
 module _ (v : Edition) (s : List ℕ) (h : Sheet s) (d : Has v s) where

@@ -1,9 +1,10 @@
 -- A conversion by its steps. Assumes nothing.
 use Prim.Native.Nat.{ℕ}
-use mathlib.Core.Path.{_≡_}
+use mathlib.Core.Path.{_≡_, refl}
 use mathlib.Core.List.{List, [], _∷_}
 use borrow.Author.Needs.{needs}
-use Rattle.filter_core.proofs.Refusals.{stays, goes}
+use Rattle.filter_core.specs.Refusal.{unlessRefused}
+use Rattle.filter_core.proofs.Choices.{deciding}
 use Rattle.lists.specs.Over.{over}
 use Rattle.sheets.specs.Sheet.{entriesOf}
 use Rattle.sheets.specs.declared.edition.Edition.{Edition}
@@ -32,8 +33,11 @@ pub ruleset wanting = (in-edition-1, needs)
 pub byte-put : (s out : List ℕ) (b : ℕ) {c : ℕ} {x y : List ℕ} → x ≡ over 0 s out → c ≡ b → y ≡ over 1 (c ∷ []) x → y ≡ over 1 (b ∷ []) (over 0 s out)
 byte-put s out b p q h = rw (← p, ← q) h
 
--- and the answer of its number and its length
-pub answer : {r k n l : ℕ} → r ≡ n → k ≡ l → _≡_ {A = Written} (record { number = r; length = k }) (record { number = n; length = l })
-answer p q = λ i. record { number = p i; length = q i }
+pub ruleset putting = (byte-put, deciding)
 
-pub ruleset converting = (byte-put, answer, stays, goes, needs)
+-- and the answer, by its number r and its length k
+pub answer : (l : ℕ) {r k n : ℕ} → r ≡ n → k ≡ unlessRefused r 0 l
+    → _≡_ {A = Written} (record { number = r; length = k }) (record { number = n; length = unlessRefused n 0 l })
+answer l p q = rw (q, p) refl
+
+pub ruleset answering = (answer, needs)

@@ -34,11 +34,16 @@ wantedRefusal Two s = 0
 abbrev pub convertRefusal : Edition → List ℕ → ℕ → ℕ
 convertRefusal v s m = checkOf s then wantedRefusal v s then roomRefusal (length s) m
 
--- ---- a refused call answers the length 0 and leaves the output as it was
+-- ---- the answer, and the output as it is left
 
+-- the sheet over the output, and the byte of the edition v over its second place
+abbrev pub putOver : Edition → List ℕ → List ℕ → List ℕ
+putOver v s out = over 1 (editionByte v ∷ []) (over 0 s out)
+
+-- a refused call answers the length 0
 abbrev pub convertOf : Edition → List ℕ → List ℕ → Written
 convertOf v s out = record { number = convertRefusal v s (length out); length = unlessRefused (convertRefusal v s (length out)) 0 (length s) }
 
--- the sheet over the output, and over its second place the edition's byte
+-- and leaves the output as it was
 abbrev pub convertedOf : Edition → List ℕ → List ℕ → List ℕ
-convertedOf v s out = unlessRefused (convertRefusal v s (length out)) out (over 1 (editionByte v ∷ []) (over 0 s out))
+convertedOf v s out = unlessRefused (convertRefusal v s (length out)) out (putOver v s out)

@@ -3,7 +3,8 @@
 use library::Written;
 use sheets::Edition;
 ghost use mathlib.Core.Path.{_≡_};
-ghost use Rattle.conversion.specs.Conversion.{seriesRefusal, seriesAmong, wantedRefusal, convertRefusal, convertOf, convertedOf};
+ghost use Rattle.filter_core.specs.Refusal.{unlessRefused};
+ghost use Rattle.conversion.specs.Conversion.{seriesRefusal, seriesAmong, wantedRefusal, convertRefusal, putOver, convertOf, convertedOf};
 ghost use Rattle.conversion.specs.Rows.{ConvertByRows};
 ghost use Rattle.conversion.specs.Converted.{Conversions};
 
@@ -50,6 +51,23 @@ fn convert_refusal(wanted: Edition, sheet: &[u8], room: usize) -> u8
 
 // ---- the converter
 
+// The sheet, and then the edition's byte over its second place; nothing where the call is refused.
+fn put_sheet(number: u8, wanted: Edition, sheet: &[u8], output: &mut [u8])
+    ensures { λ _. ⌜ now (output .exit) ≡ unlessRefused number (now (output .entry)) (putOver wanted (now (sheet .entry)) (now (output .entry))) ⌝ }
+{
+    if number != 0 {
+        return;
+    }
+    lists::copy(sheet, output, 0);
+    lists::copy(&[sheets::edition_byte(wanted)], output, 1);
+}
+
+fn length_for(number: u8, length: usize) -> usize
+    ensures { λ r. ⌜ r ≡ unlessRefused number 0 length ⌝ }
+{
+    if number == 0 { length } else { 0 }
+}
+
 // Writes the sheet in the wanted edition, and answers as `library::write` does: the number and the length, which is 0 where the call is
 // refused. A sheet that is in that edition already is copied. Places behind the sheet keep their contents.
 pub fn convert(wanted: Edition, sheet: &[u8], output: &mut [u8]) -> Written
@@ -57,17 +75,10 @@ pub fn convert(wanted: Edition, sheet: &[u8], output: &mut [u8]) -> Written
     ensures { λ _. ⌜ now (output .exit) ≡ convertedOf wanted (now (sheet .entry)) (now (output .entry)) ⌝ }
 {
     let number = convert_refusal(wanted, sheet, output.len());
-    if number != 0 {
-        return Written {
-            number: number,
-            length: 0,
-        };
-    }
-    lists::copy(sheet, output, 0);
-    lists::copy(&[sheets::edition_byte(wanted)], output, 1);
+    put_sheet(number, wanted, sheet, output);
     Written {
         number: number,
-        length: sheet.len(),
+        length: length_for(number, sheet.len()),
     }
 }
 

@@ -1,4 +1,5 @@
-use Rattle.conversion.proofs.Steps.{converting}
+use borrow.Author.Needs.{needs}
+use Rattle.conversion.proofs.Steps.{answering}
 use Rattle.conversion.proofs.convert.Statement.{statement}
 use Rattle.conversion.proofs.convert.Tie as tie
 
@@ -6,11 +7,8 @@ pub convert-spec : {M : Type 1} → statement M
 convert-spec =
     tie.close
     (tie.spec
-    (λ c. search converting)
-    (λ c. search converting)
-    (λ c. search converting)
-    (λ c. search converting)
-    (λ c. search converting)
-    (λ c. search converting)
-    (λ c. search converting)
-    (λ c. search converting))
+    (λ c κs. search needs)
+    (λ c κs. search needs)
+    (λ c κs. search needs)
+    (λ c. search needs)
+    (λ c. (search answering, cc)))
