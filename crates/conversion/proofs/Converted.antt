@@ -22,7 +22,7 @@ use Rattle.library.specs.declared.Written.{Written}
 use Rattle.library.proofs.RoundTrip.{rewritten}
 use Rattle.library.proofs.Rows.{write-short}
 use Rattle.conversion.specs.Conversion.{convertRefusal, putOver, convertOf, convertedOf}
-use Rattle.conversion.specs.Converted.{inEdition, writtenSheet, Writes, OldReader, Converted, withEdition, AsWrite, Conversions}
+use Rattle.conversion.specs.Converted.{inEdition, writtenSheet, Writes, OldReader, Converted, libraryIn, AsWrite, Conversions}
 use Rattle.conversion.proofs.Rows.{up, down, told-series, tells-series, Has, too-short, accepted, taken}
 use Rattle.conversion.proofs.Moved.{length-in, entries-in, behind-in, setting-in, entry-in, byte-in, edition-in, long, sheet-in, in-back, in-own, one-has-no-series, no-series-in}
 
@@ -92,7 +92,7 @@ module _ (v : Edition) (s : List ℕ) (h : Sheet s) (d : Has v s) where
         old-reader = old-reader;
       }
 
-  library-in : libraryOf (inEdition v s) ≡ withEdition v (libraryOf s)
+  library-in : libraryOf (inEdition v s) ≡ libraryIn v (libraryOf s)
   library-in =
       let n = entries-in v s in
       let w = edition-in v s (long s h) in

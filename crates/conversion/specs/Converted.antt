@@ -51,8 +51,8 @@ pub record Converted (v : Edition) (s out t : List ℕ) : Type 0 where
   pub old-reader : v ≡ One → OldReader s t
 
 -- the library l as one of the edition v
-abbrev pub withEdition : Edition → Library → Library
-withEdition v l = record { n = l .n; edition = v; kinds = l .kinds; settings = l .settings }
+abbrev pub libraryIn : Edition → Library → Library
+libraryIn v l = record { n = l .n; edition = v; kinds = l .kinds; settings = l .settings }
 
 -- what converting s does is what writing the library l does
 pub record AsWrite (v : Edition) (s out : List ℕ) (l : Library) : Type 0 where
@@ -71,4 +71,4 @@ pub record Conversions : Type 0 where
   -- a sheet that is in the wanted edition already is copied
   pub copied : (s out : List ℕ) → Sheet s → length s ≤ length out → Writes (editionIn s) s out s
   -- an answer other than 15 is that of write, and so is the output, where the library has the wanted edition
-  pub as-write : (v : Edition) (s out : List ℕ) → Sheet s → (convertOf v s out .number ≡ 15 → ⊥) → AsWrite v s out (withEdition v (libraryOf s))
+  pub as-write : (v : Edition) (s out : List ℕ) → Sheet s → (convertOf v s out .number ≡ 15 → ⊥) → AsWrite v s out (libraryIn v (libraryOf s))
