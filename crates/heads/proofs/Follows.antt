@@ -8,19 +8,22 @@ use borrow.Author.Tests.{ltb-true, ltb-false, leb-false, le-ltb}
 use lib.ListN.{length, getD, take, set, length-append, length-take, List·getD-eq-default}
 use lib.Seq.{length-take-le, getD-take}
 use lib.Dec.{eqb, leb, ltb, eqb·suc-suc, eqb·zero-suc, eqb·suc-zero}
+use Rattle.filter_core.specs.Buffer.{within}
 use Rattle.filter_core.specs.Refusal.{unlessRefused}
+use Rattle.filter_core.specs.Rows.{_then_}
 use Rattle.sheets.specs.declared.entry.Entry.{Entry}
 use Rattle.any_filter.specs.Cases.{typeOf}
 use Rattle.any_filter.specs.declared.FilterType.{FilterType}
 use Rattle.any_filter.specs.declared.Filter.{Filter}
 use Rattle.runs.specs.Form.{runRefusal, runTwoRefusal}
 use Rattle.lists.specs.Table.{table}
-use Rattle.heads.specs.Act.{Act, run, runTwo, rest, mark, back, drop, HeadReply, answered, marked}
-use Rattle.heads.specs.Snapshot.{emptySnapshot, loadedWith, Sewn, left, onFilter, runBy, runSewn, runTwoBy, runTwoSewn, restBy, restSewn}
+use Rattle.heads.specs.Act.{Act, run, runTwo, rest, mark, back, drop, count, HeadReply, answered, marked}
+use Rattle.heads.specs.Snapshot.{emptySnapshot, loadedWith, Sewn, left, onFilter, countRefusal, runBy, runSewn, runTwoBy, runTwoSewn, restBy, restSewn}
 use Rattle.heads.specs.Head.{emptyHead, holding, Turned, refuseTurn, acceptTurn, put, lastMark, nextMark, markedHead, markBy, marksBelow, onlyIf, restored, backHead, dropHead, atMark, turn}
-use Rattle.heads.specs.History.{Event, loadEvent, HeadHistory, noHistory, lastType, unlessBare, noMark, actNumber, adding, grownBy, advanceBy, snapshotFrom, snapshotOf, acceptedAct, actReply}
+use Rattle.heads.specs.History.{Event, loadEvent, HeadHistory, noHistory, lastType, countOf, unlessBare, noMark, actNumber, adding, grownBy, advanceBy, snapshotFrom, snapshotOf, acceptedAct, actReply}
 use Rattle.heads.specs.Follows.{headFor, Fits, bare, held, SoundHead, HeadFollows}
 use Rattle.lists.proofs.Tables.{getD-table, table-ext, set-table}
+use Rattle.heads.proofs.Counts.{count-is}
 use Rattle.heads.proofs.Sound.{snapshot-snoc, sound-none, sound-loaded, sound-advance}
 use Rattle.heads.specs.declared.Slot.{Slot}
 use Rattle.heads.specs.declared.Slot.the-variants.{Empty, Holds}
@@ -124,18 +127,21 @@ module _ (x : HeadHistory) (S : SoundHead x) where
       → ((f : Filter) → snapshotOf (x .history) .slot ≡ Holds f → t f ≡ unlessRefused (n (typeOf f)) (left (snapshotOf (x .history)) a (n (typeOf f))) (sewnBy a))
       → put (headFor x) (onFilter (snapshotOf (x .history) .slot) (left (snapshotOf (x .history)) a 6) t)
       ≡ unless (headFor x) a (unlessBare (x .history) (n (lastType (x .history)))) (put (headFor x) (sewnBy a))
-  asks a n t h = on-filter (headFor x) a (x .history) (snapshotOf (x .history) .slot) n t (sewnBy a) (S .good) h
+  asks a n t h = on-filter (headFor x) a (x .history) (snapshotOf (x .history) .slot) n t (sewnBy a) (S .good .fits) h
 
   act-turn : (a : Act) → turn (headFor x) a ≡ unless (headFor x) a (actNumber x a) (said a)
   unfolding turn runSewn runTwoSewn restSewn
   act-turn (run form us ys) =
-      asks (run form us ys) (λ k. runRefusal k form) (runBy (snapshotOf (x .history)) form us ys) (λ f e. rw (snapshot-snoc, e) refl)
+      asks (run form us ys) (λ k. runRefusal k form then countRefusal (countOf (x .history)) (length (within us ys)))
+      (runBy (snapshotOf (x .history)) form us ys) (λ f e. rw (snapshot-snoc, e, count-is) refl)
   act-turn (runTwo form us ys zs) =
-      asks (runTwo form us ys zs) (λ k. runTwoRefusal k form) (runTwoBy (snapshotOf (x .history)) form us ys zs) (λ f e. rw (snapshot-snoc, e) refl)
-  act-turn rest = asks rest (λ k. 0) restBy (λ f e. rw (snapshot-snoc, e) refl)
-  act-turn mark = rw (length-append, ← marks-snoc (x .checkpoints) (x .history)) (on-mark (headFor x) (x .history) (snapshotOf (x .history) .slot) (S .good))
+      asks (runTwo form us ys zs) (λ k. runTwoRefusal k form then countRefusal (countOf (x .history)) (length (within (within us ys) zs)))
+      (runTwoBy (snapshotOf (x .history)) form us ys zs) (λ f e. rw (snapshot-snoc, e, count-is) refl)
+  act-turn rest = asks rest (λ k. 0) (restBy (snapshotOf (x .history))) (λ f e. rw (snapshot-snoc, e) refl)
+  act-turn mark = rw (length-append, ← marks-snoc (x .checkpoints) (x .history)) (on-mark (headFor x) (x .history) (snapshotOf (x .history) .slot) (S .good .fits))
   act-turn (back m) = there x (back m) m (S .four) (back-pictured m)
   act-turn (drop m) = there x (drop m) m (S .four) (drop-pictured m)
+  act-turn count = rw count-is refl
 
 -- a turn by a number, told apart into its reply and its head
 apart : (x : HeadHistory) (a : Act) (n : ℕ) (r : HeadReply) (g : HeadHistory)

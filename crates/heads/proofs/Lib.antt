@@ -1,3 +1,4 @@
+pub mod Counts
 pub mod Turns
 pub mod Sound
 pub mod Follows

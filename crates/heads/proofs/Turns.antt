@@ -1,13 +1,16 @@
 -- What each call comes to in each of its cases, over plain values: the functions' proofs hand their facts to these. Assumes nothing.
-use Prim.Native.Nat.{ℕ, _+_, _≤_, _<_}
-use mathlib.Core.Path.{_≡_, refl}
+use Prim.Native.Nat.{ℕ, _+_, _-_, min, _≤_, _<_}
+use mathlib.Core.Path.{_≡_, refl, sym, _∙_}
 use mathlib.Core.List.{List}
 use borrow.Author.Needs.{needs}
 use borrow.Author.Tests.{lt-ltb, le-ltb, le-leb, lt-leb}
-use lib.ListN.{replicate}
+use native.Mathlib.Omega.{arith}
+use lib.ListN.{length, replicate, length-take}
 use lib.Ieee.{Float}
 use Rattle.filter_core.specs.Buffer.{within}
+use Rattle.filter_core.specs.Rows.{_then_}
 use Rattle.filter_core.proofs.Refusals.{refusing, accepting}
+use Rattle.filter_core.proofs.Rows.{then-zero}
 use Rattle.sheets.specs.declared.entry.Entry.{Entry}
 use Rattle.loads.specs.Load.{filterOf}
 use Rattle.any_filter.specs.Cases.{typeOf, rested}
@@ -16,8 +19,9 @@ use Rattle.runs.specs.Form.{runRefusal, runTwoRefusal}
 use Rattle.runs.specs.Run.{Ran, RanTwo}
 use Rattle.runs.specs.declared.RunForm.{RunForm}
 use Rattle.heads.specs.Act.{mark, back, drop}
-use Rattle.heads.specs.Snapshot.{emptySnapshot, holds, loadedWith, runSewn, runTwoSewn, restSewn, sewn, sewnPlainly, sewnWith, sewnWithTwo}
+use Rattle.heads.specs.Snapshot.{emptySnapshot, holds, loadedWith, greatestCount, countRefusal, runSewn, runTwoSewn, restSewn, sewn, sewnPlainly, sewnWith, sewnWithTwo}
 use Rattle.heads.specs.Head.{emptyHead, lastMark, markedHead, nextMark, marksBelow, restored, turn, headNumbered, headUnmarked, turnedPlainly, turnedWithMark}
+use Rattle.heads.proofs.Counts.{room}
 use Rattle.heads.specs.declared.Slot.the-variants.{Empty, Holds}
 use Rattle.heads.specs.declared.Snapshot.{Snapshot}
 use Rattle.heads.specs.declared.SnapshotAnswer.{SnapshotAnswer}
@@ -29,8 +33,29 @@ pub fresh : (s : Snapshot) → s ≡ emptySnapshot → _≡_ {A = Head} (record 
 unfolding emptyHead
 fresh s e = rw e refl
 
-pub loading : (e : Entry) (k : Filter) (r : Snapshot) → k ≡ filterOf e → r ≡ holds k → r ≡ loadedWith e
+pub loading : (e : Entry) (k : Filter) (r : Snapshot) → k ≡ filterOf e → r ≡ holds k 0 → r ≡ loadedWith e
 loading e k r u q = rw (q, u) refl
+
+-- ---- the count
+
+-- the samples that reach a form, by the lengths
+
+shortest : (us ys : List Float) (m : ℕ) → m ≡ min (length us) (length ys) → m ≡ length (within us ys)
+shortest us ys m e = omega (arith, length-take (length ys) us)
+
+shortest-of-three : (us ys zs : List Float) (m : ℕ) → m ≡ min (length us) (min (length ys) (length zs)) → m ≡ length (within (within us ys) zs)
+shortest-of-three us ys zs m e = omega (arith, length-take (length zs) (within us ys), length-take (length ys) us)
+
+module _ (k m : ℕ) where
+  pub count-refused : greatestCount - k < m → 18 ≡ countRefusal k m
+  count-refused l = rw (lt-ltb greatestCount (k + m) (omega arith)) refl
+
+  pub count-accepted : k ≤ greatestCount → m ≤ greatestCount - k → 0 ≡ countRefusal k m
+  count-accepted h l = rw (le-ltb greatestCount (k + m) (omega arith)) refl
+
+  -- a run that is accepted fits
+  pub count-fits : (o t n : ℕ) → t ≡ countRefusal k m → n ≡ (o then t) → n ≡ 0 → k + m ≤ greatestCount
+  count-fits o t n b g z = room k m (sym b ∙ then-zero o t (sym g ∙ z) .1)
 
 -- ---- what the head holds
 
@@ -50,36 +75,45 @@ module _ (x : Snapshot) where
 
   -- k is the filter that the call leaves, y the snapshot with it
   module _ (p : Filter) (e : x .slot ≡ Holds p) where
-    pub rest-accepted : (k : Filter) (y : Snapshot) (r : SnapshotAnswer) → k ≡ rested p → y ≡ holds k → r ≡ sewn 0 y → sewnPlainly r ≡ restSewn x
+    pub rest-accepted : (k : Filter) (y : Snapshot) (r : SnapshotAnswer) → k ≡ rested p → y ≡ holds k (x .count) → r ≡ sewn 0 y → sewnPlainly r ≡ restSewn x
     unfolding restSewn
     rest-accepted k y r u i q = rw (q, i, u, e) refl
 
-    module _ (form : RunForm) (us ys : List Float) (n : ℕ) (d : n ≡ runRefusal (typeOf p) form) (r : SnapshotAnswer) where
+    -- m is how many samples reach the form, o the number of the form, t that of the count, and n the first of the two
+    module _ (form : RunForm) (us ys : List Float) (m o t n : ℕ) (s : m ≡ min (length us) (length ys)) (d : o ≡ runRefusal (typeOf p) form)
+        (b : t ≡ countRefusal (x .count) m) (g : n ≡ (o then t)) (r : SnapshotAnswer) where
+      run-number : n ≡ (runRefusal (typeOf p) form then countRefusal (x .count) (length (within us ys)))
+      run-number = rw (← d, ← shortest us ys m s, ← b) g
+
       pub run-refused : (n ≡ 0 → ⊥) → r ≡ sewn n x → sewnWith r ys ≡ runSewn x form us ys
       unfolding runSewn
-      run-refused z q = rw (q, e, refusing _ _ d z, d) refl
+      run-refused z q = rw (q, e, refusing _ _ run-number z, run-number) refl
 
-      pub run-accepted : (k : Filter) (ys′ : List Float) (y : Snapshot) → n ≡ 0 → Ran p form (within us ys) ys k ys′ → y ≡ holds k → r ≡ sewn 0 y
-          → sewnWith r ys′ ≡ runSewn x form us ys
+      pub run-accepted : (k : Filter) (c : ℕ) (ys′ : List Float) (y : Snapshot) → n ≡ 0 → Ran p form (within us ys) ys k ys′ → c ≡ x .count + m
+          → y ≡ holds k c → r ≡ sewn 0 y → sewnWith r ys′ ≡ runSewn x form us ys
       unfolding runSewn
-      run-accepted k ys′ y z a i q =
-          let t = accepting _ _ d z in
-          let u = rw t at (a .filter-is) in
-          let v = rw t at (a .output-is) in rw (q, i, u, v, e, t) refl
+      run-accepted k c ys′ y z a l i q =
+          let f = accepting _ _ d (then-zero o t (sym g ∙ z) .0) in
+          let u = rw f at (a .filter-is) in
+          let v = rw f at (a .output-is) in rw (q, i, u, v, l, shortest us ys m s, e, accepting _ _ run-number z) refl
 
-    module _ (form : RunForm) (us ys zs : List Float) (n : ℕ) (d : n ≡ runTwoRefusal (typeOf p) form) (r : SnapshotAnswer) where
+    module _ (form : RunForm) (us ys zs : List Float) (m o t n : ℕ) (s : m ≡ min (length us) (min (length ys) (length zs)))
+        (d : o ≡ runTwoRefusal (typeOf p) form) (b : t ≡ countRefusal (x .count) m) (g : n ≡ (o then t)) (r : SnapshotAnswer) where
+      two-number : n ≡ (runTwoRefusal (typeOf p) form then countRefusal (x .count) (length (within (within us ys) zs)))
+      two-number = rw (← d, ← shortest-of-three us ys zs m s, ← b) g
+
       pub two-refused : (n ≡ 0 → ⊥) → r ≡ sewn n x → sewnWithTwo r ys zs ≡ runTwoSewn x form us ys zs
       unfolding runTwoSewn
-      two-refused z q = rw (q, e, refusing _ _ d z, d) refl
+      two-refused z q = rw (q, e, refusing _ _ two-number z, two-number) refl
 
-      pub two-accepted : (k : Filter) (ys′ zs′ : List Float) (y : Snapshot) → n ≡ 0 → RanTwo p form (within (within us ys) zs) ys zs k ys′ zs′
-          → y ≡ holds k → r ≡ sewn 0 y → sewnWithTwo r ys′ zs′ ≡ runTwoSewn x form us ys zs
+      pub two-accepted : (k : Filter) (c : ℕ) (ys′ zs′ : List Float) (y : Snapshot) → n ≡ 0 → RanTwo p form (within (within us ys) zs) ys zs k ys′ zs′
+          → c ≡ x .count + m → y ≡ holds k c → r ≡ sewn 0 y → sewnWithTwo r ys′ zs′ ≡ runTwoSewn x form us ys zs
       unfolding runTwoSewn
-      two-accepted k ys′ zs′ y z a i q =
-          let t = accepting _ _ d z in
-          let u = rw t at (a .filter-is) in
-          let v = rw t at (a .first-is) in
-          let w = rw t at (a .second-is) in rw (q, i, u, v, w, e, t) refl
+      two-accepted k c ys′ zs′ y z a l i q =
+          let f = accepting _ _ d (then-zero o t (sym g ∙ z) .0) in
+          let u = rw f at (a .filter-is) in
+          let v = rw f at (a .first-is) in
+          let w = rw f at (a .second-is) in rw (q, i, u, v, w, l, shortest-of-three us ys zs m s, e, accepting _ _ two-number z) refl
 
 -- ---- marks
 
@@ -126,4 +160,4 @@ module _ (x : Head) where
 
 -- what `search` is handed at each return of a call
 pub ruleset turns =
-    (fresh, loading, rest-bare, run-bare, two-bare, rest-accepted, run-refused, run-accepted, two-refused, two-accepted, mark-bare, mark-full, mark-accepted, back-none, back-past, back-accepted, drop-none, drop-past, drop-accepted, needs)
+    (fresh, loading, count-refused, count-accepted, count-fits, rest-bare, run-bare, two-bare, rest-accepted, run-refused, run-accepted, two-refused, two-accepted, mark-bare, mark-full, mark-accepted, back-none, back-past, back-accepted, drop-none, drop-past, drop-accepted, needs)

@@ -8,9 +8,9 @@ use Rattle.any_filter.specs.Cases.{typeOf}
 use Rattle.any_filter.specs.declared.Filter.{Filter}
 use Rattle.lists.specs.Table.{table}
 use Rattle.heads.specs.Act.{Act}
-use Rattle.heads.specs.Snapshot.{loadedWith}
+use Rattle.heads.specs.Snapshot.{loadedWith, greatestCount}
 use Rattle.heads.specs.Head.{emptyHead, holding, turn}
-use Rattle.heads.specs.History.{Event, loadEvent, HeadHistory, noHistory, lastType, adding, advanceBy, snapshotOf, actReply}
+use Rattle.heads.specs.History.{Event, loadEvent, HeadHistory, noHistory, lastType, countOf, adding, advanceBy, snapshotOf, actReply}
 use Rattle.heads.specs.declared.Slot.{Slot}
 use Rattle.heads.specs.declared.Slot.the-variants.{Empty, Holds}
 use Rattle.heads.specs.declared.Head.{Head}
@@ -25,8 +25,10 @@ pub data Fits : List Event → Slot → Type 0 where
   bare : Fits [] Empty
   held : {i : Event} {l : List Event} {f : Filter} → typeOf f ≡ lastType (i ∷ l) → Fits (i ∷ l) (Holds f)
 
-abbrev pub Good : List Event → Type 0
-Good l = Fits l (snapshotOf l .slot)
+-- its count is one of 32 bits
+pub record Good (l : List Event) : Type 0 where
+  pub fits : Fits l (snapshotOf l .slot)
+  pub small : countOf l ≤ greatestCount
 
 -- what holds of every history that calls make
 pub record SoundHead (x : HeadHistory) : Type 0 where

@@ -5,7 +5,7 @@ use mathlib.Core.List.{List}
 use lib.Dec.{leb, ltb}
 use lib.ListN.{getD, set, replicate}
 use Rattle.lists.specs.Table.{table}
-use Rattle.heads.specs.Act.{Act, run, runTwo, rest, mark, back, drop, HeadReply, answered, marked, refusedAct}
+use Rattle.heads.specs.Act.{Act, run, runTwo, rest, mark, back, drop, count, HeadReply, answered, marked, counted, refusedAct}
 use Rattle.heads.specs.Snapshot.{emptySnapshot, Sewn, runSewn, runTwoSewn, restSewn}
 use Rattle.heads.specs.declared.Slot.{Slot}
 use Rattle.heads.specs.declared.Slot.the-variants.{Empty, Holds}
@@ -84,6 +84,7 @@ turn x rest = put x (restSewn (x .now))
 turn x mark = markBy x (x .now .slot)
 turn x (back m) = atMark x (back m) m (acceptTurn (answered 0) (backHead x m))
 turn x (drop m) = atMark x (drop m) m (acceptTurn (answered 0) (dropHead x m))
+turn x count = acceptTurn (counted 0 (x .now .count)) x
 
 -- ---- the answers of the code
 

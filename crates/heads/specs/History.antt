@@ -7,6 +7,7 @@ use lib.Dec.{leb, ltb, eqb}
 use lib.ListN.{length, getD, take}
 use lib.Ieee.{Float}
 use Rattle.filter_core.specs.Buffer.{within}
+use Rattle.filter_core.specs.Rows.{_then_}
 use Rattle.sheets.specs.declared.entry.Entry.{Entry}
 use Rattle.any_filter.specs.Cases.{typeOf, rested}
 use Rattle.any_filter.specs.declared.FilterType.{FilterType}
@@ -15,7 +16,8 @@ use Rattle.runs.specs.Form.{runRefusal, runTwoRefusal}
 use Rattle.runs.specs.Run.{through, firstOutput, secondOutput}
 use Rattle.runs.specs.declared.RunForm.{RunForm}
 use Rattle.loads.specs.Load.{filterOf}
-use Rattle.heads.specs.Act.{Act, run, runTwo, rest, mark, back, drop, HeadReply, answered, marked, ran, ranTwo, refusedAct}
+use Rattle.heads.specs.Act.{Act, run, runTwo, rest, mark, back, drop, count, HeadReply, answered, marked, ran, ranTwo, counted, refusedAct}
+use Rattle.heads.specs.Snapshot.{countRefusal}
 use Rattle.heads.specs.declared.Slot.{Slot}
 use Rattle.heads.specs.declared.Slot.the-variants.{Empty, Holds}
 use Rattle.heads.specs.declared.Snapshot.{Snapshot}
@@ -50,6 +52,29 @@ typeFrom k (i ∷ is) = typeFrom (typeWith k i) is
 abbrev pub lastType : List Event → FilterType
 lastType l = typeFrom type.DcBlocker l
 
+-- ---- the samples sewn since the last load of a history (02 i)
+
+-- the events since the last load, which are all where there is none
+
+abbrev pub sinceWith : List Event → Event → List Event
+sinceWith l (loadEvent e) = []
+sinceWith l (runEvent form us) = l ++ runEvent form us ∷ []
+sinceWith l restEvent = l ++ restEvent ∷ []
+
+unfoldable pub sinceFrom : List Event → List Event → List Event
+sinceFrom l [] = l
+sinceFrom l (i ∷ is) = sinceFrom (sinceWith l i) is
+
+-- the samples of all runs among some events
+unfoldable pub samplesIn : List Event → ℕ
+samplesIn [] = 0
+samplesIn (loadEvent e ∷ is) = samplesIn is
+samplesIn (runEvent form us ∷ is) = length us + samplesIn is
+samplesIn (restEvent ∷ is) = samplesIn is
+
+abbrev pub countOf : List Event → ℕ
+countOf l = samplesIn (sinceFrom [] l)
+
 -- ---- the number of each call, in the table's order
 
 -- a head is bare when its history is empty
@@ -66,12 +91,15 @@ abbrev pub noMark : HeadHistory → ℕ → ℕ
 noMark x m = cond (leb (length (x .checkpoints)) m) 7 0
 
 abbrev pub actNumber : HeadHistory → Act → ℕ
-actNumber x (run form us ys) = unlessBare (x .history) (runRefusal (lastType (x .history)) form)
-actNumber x (runTwo form us ys zs) = unlessBare (x .history) (runTwoRefusal (lastType (x .history)) form)
+actNumber x (run form us ys) =
+    unlessBare (x .history) (runRefusal (lastType (x .history)) form then countRefusal (countOf (x .history)) (length (within us ys)))
+actNumber x (runTwo form us ys zs) =
+    unlessBare (x .history) (runTwoRefusal (lastType (x .history)) form then countRefusal (countOf (x .history)) (length (within (within us ys) zs)))
 actNumber x rest = unlessBare (x .history) 0
 actNumber x mark = unlessBare (x .history) (markRefusal x)
 actNumber x (back m) = noMark x m
 actNumber x (drop m) = noMark x m
+actNumber x count = 0
 
 -- ---- what an accepted call adds
 
@@ -85,6 +113,7 @@ grownBy x rest = adding x restEvent
 grownBy x mark = record { history = x .history; checkpoints = x .checkpoints ++ x .history ∷ [] }
 grownBy x (back m) = record { history = getD (x .checkpoints) m []; checkpoints = take (m + 1) (x .checkpoints) }
 grownBy x (drop m) = record { history = x .history; checkpoints = take m (x .checkpoints) }
+grownBy x count = x
 
 -- a refused call adds nothing
 unfoldable pub advanceBy : HeadHistory → Act → HeadHistory
@@ -99,15 +128,21 @@ slotWith (Holds f) (runEvent form us) = Holds (through f form us)
 slotWith Empty restEvent = Empty
 slotWith (Holds f) restEvent = Holds (rested f)
 
+-- the count: a load begins anew, a run adds its samples (02 i)
+abbrev pub countWith : ℕ → Event → ℕ
+countWith n (loadEvent e) = 0
+countWith n (runEvent form us) = n + length us
+countWith n restEvent = n
+
 abbrev pub snapshotWith : Snapshot → Event → Snapshot
-snapshotWith s i = record { slot = slotWith (s .slot) i }
+snapshotWith s i = record { slot = slotWith (s .slot) i; count = countWith (s .count) i }
 
 unfoldable pub snapshotFrom : Snapshot → List Event → Snapshot
 snapshotFrom s [] = s
 snapshotFrom s (i ∷ is) = snapshotFrom (snapshotWith s i) is
 
 abbrev pub snapshotOf : List Event → Snapshot
-snapshotOf l = snapshotFrom (record { slot = Empty }) l
+snapshotOf l = snapshotFrom (record { slot = Empty; count = 0 }) l
 
 -- ---- what each call replies
 
@@ -130,6 +165,7 @@ acceptedAct x rest = answered 0
 acceptedAct x mark = marked 0 (length (x .checkpoints))
 acceptedAct x (back m) = answered 0
 acceptedAct x (drop m) = answered 0
+acceptedAct x count = counted 0 (countOf (x .history))
 
 unfoldable pub actReply : HeadHistory → Act → HeadReply
 actReply x a = cond (eqb (actNumber x a) 0) (acceptedAct x a) (refusedAct (actNumber x a) a)

@@ -5,3 +5,4 @@ pub mod History
 pub mod Follows
 pub mod Rows
 pub mod Rest
+pub mod Counts

@@ -1,9 +1,13 @@
 -- What a run, a rest and a load do to what a head holds.
-use Prim.Native.Nat.{ℕ}
+use Prim.Native.Nat.{ℕ, _+_}
+use mathlib.Core.Bool.{cond}
 use mathlib.Core.List.{List}
+use lib.Dec.{ltb}
+use lib.ListN.{length}
 use lib.Ieee.{Float}
 use Rattle.filter_core.specs.Buffer.{within}
 use Rattle.filter_core.specs.Refusal.{unlessRefused}
+use Rattle.filter_core.specs.Rows.{_then_}
 use Rattle.sheets.specs.declared.entry.Entry.{Entry}
 use Rattle.any_filter.specs.Cases.{typeOf, rested}
 use Rattle.any_filter.specs.declared.Filter.{Filter}
@@ -18,13 +22,25 @@ use Rattle.heads.specs.declared.Snapshot.{Snapshot}
 use Rattle.heads.specs.declared.SnapshotAnswer.{SnapshotAnswer}
 
 abbrev pub emptySnapshot : Snapshot
-emptySnapshot = record { slot = Empty }
+emptySnapshot = record { slot = Empty; count = 0 }
 
-abbrev pub holds : Filter → Snapshot
-holds f = record { slot = Holds f }
+abbrev pub holds : Filter → ℕ → Snapshot
+holds f n = record { slot = Holds f; count = n }
 
 abbrev pub loadedWith : Entry → Snapshot
-loadedWith e = holds (filterOf e)
+loadedWith e = holds (filterOf e) 0
+
+-- ---- the count (02 i)
+
+-- the greatest number of 32 bits
+abbrev pub greatestCount : ℕ
+greatestCount = 0xffff_ffff
+
+-- 18 where a run over n samples would take the count above it
+abbrev pub countRefusal : ℕ → ℕ → ℕ
+countRefusal count n = cond (ltb greatestCount (count + n)) 18 0
+
+-- ---- what a call comes to
 
 -- what the caller sees, and what the head holds then
 pub record Sewn : Type 0 where
@@ -42,8 +58,10 @@ onFilter (Holds f) bare t = t f
 
 abbrev pub runBy : Snapshot → RunForm → List Float → List Float → Filter → Sewn
 runBy s form us ys f =
-    unlessRefused (runRefusal (typeOf f) form) (left s (run form us ys) (runRefusal (typeOf f) form))
-    (record { reply = ran 0 (firstOutput f form (within us ys) ys); now = holds (through f form (within us ys)) })
+    let xs = within us ys in
+    let number = runRefusal (typeOf f) form then countRefusal (s .count) (length xs) in
+    unlessRefused number (left s (run form us ys) number)
+    (record { reply = ran 0 (firstOutput f form xs ys); now = holds (through f form xs) (s .count + length xs) })
 
 unfoldable pub runSewn : Snapshot → RunForm → List Float → List Float → Sewn
 runSewn s form us ys = onFilter (s .slot) (left s (run form us ys) 6) (runBy s form us ys)
@@ -51,17 +69,18 @@ runSewn s form us ys = onFilter (s .slot) (left s (run form us ys) 6) (runBy s f
 abbrev pub runTwoBy : Snapshot → RunForm → List Float → List Float → List Float → Filter → Sewn
 runTwoBy s form us ys zs f =
     let xs = within (within us ys) zs in
-    unlessRefused (runTwoRefusal (typeOf f) form) (left s (runTwo form us ys zs) (runTwoRefusal (typeOf f) form))
-    (record { reply = ranTwo 0 (firstOutput f form xs ys) (secondOutput f form xs zs); now = holds (through f form xs) })
+    let number = runTwoRefusal (typeOf f) form then countRefusal (s .count) (length xs) in
+    unlessRefused number (left s (runTwo form us ys zs) number)
+    (record { reply = ranTwo 0 (firstOutput f form xs ys) (secondOutput f form xs zs); now = holds (through f form xs) (s .count + length xs) })
 
 unfoldable pub runTwoSewn : Snapshot → RunForm → List Float → List Float → List Float → Sewn
 runTwoSewn s form us ys zs = onFilter (s .slot) (left s (runTwo form us ys zs) 6) (runTwoBy s form us ys zs)
 
-abbrev pub restBy : Filter → Sewn
-restBy f = record { reply = answered 0; now = holds (rested f) }
+abbrev pub restBy : Snapshot → Filter → Sewn
+restBy s f = record { reply = answered 0; now = holds (rested f) (s .count) }
 
 unfoldable pub restSewn : Snapshot → Sewn
-restSewn s = onFilter (s .slot) (left s rest 6) restBy
+restSewn s = onFilter (s .slot) (left s rest 6) (restBy s)
 
 -- ---- the answers of the code, with the lent outputs as they are left
 

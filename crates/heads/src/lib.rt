@@ -1,9 +1,12 @@
 // A head: empty or with one filter, and up to four marks to go back to.
 // Each call takes the head by value and hands it back in its answer. A refused call hands it back as it was.
 
+mod count;
 mod marks;
 
 use any_filter::Filter;
+use count::count_refusal;
+use count::raised;
 use marks::empty_snapshot;
 use marks::marks_below;
 use runs::RunForm;
@@ -13,6 +16,7 @@ ghost use Rattle.heads.specs.Act.{mark, back, drop};
 ghost use Rattle.heads.specs.Snapshot.{holds, loadedWith, runSewn, runTwoSewn, restSewn, sewn, sewnPlainly, sewnWith, sewnWithTwo};
 ghost use Rattle.heads.specs.Head.{emptyHead, holding, turn, headNumbered, headUnmarked, turnedPlainly, turnedWithMark};
 ghost use Rattle.heads.specs.Follows.{HeadFollows};
+ghost use Rattle.heads.specs.Counts.{CountsAreSums};
 ghost use Rattle.heads.specs.Rows.{HeadByRows};
 ghost use Rattle.heads.specs.Rest.{RestIsLoad};
 
@@ -21,9 +25,10 @@ pub enum Slot {
     Holds(Filter),
 }
 
-// What a mark keeps of a head, and what the head itself holds.
+// What a mark keeps of a head, and what the head itself holds. The count is that of the samples sewn since the load, 0 while empty.
 pub struct Snapshot {
     pub slot: Slot,
+    pub count: u32,
 }
 
 // The places of `marks` from `marked` on are empty, so that a head is one value.
@@ -51,11 +56,12 @@ pub struct HeadMarked {
     pub head: Head,
 }
 
-fn holds(filter: Filter) -> Snapshot
-    ensures { λ r. ⌜ r ≡ holds filter ⌝ }
+fn holds(filter: Filter, count: u32) -> Snapshot
+    ensures { λ r. ⌜ r ≡ holds filter count ⌝ }
 {
     Snapshot {
         slot: Slot::Holds(filter),
+        count: count,
     }
 }
 
@@ -93,7 +99,7 @@ impl Snapshot {
     pub fn loaded(entry: Entry) -> Snapshot
         ensures { λ r. ⌜ r ≡ loadedWith entry ⌝ }
     {
-        holds(loads::filter_of(entry))
+        holds(loads::filter_of(entry), 0)
     }
 
     // Runs a form with one output.
@@ -104,11 +110,14 @@ impl Snapshot {
         let Slot::Holds(filter) = slot else {
             return snapshot_answer(6, self);
         };
-        let number = runs::run_refusal(filter, form);
+        let count = self.count;
+        let n = filter_core::shortest(input.len(), output.len());
+        let number = filter_core::then(runs::run_refusal(filter, form), count_refusal(count, n));
         if number != 0 {
             return snapshot_answer(number, self);
         }
-        snapshot_answer(0, holds(runs::run(filter, form, input, output)))
+        let after = raised(count, n);
+        snapshot_answer(0, holds(runs::run(filter, form, input, output), after))
     }
 
     // Runs a form with two outputs.
@@ -125,14 +134,17 @@ impl Snapshot {
         let Slot::Holds(filter) = slot else {
             return snapshot_answer(6, self);
         };
-        let number = runs::run_two_refusal(filter, form);
+        let count = self.count;
+        let n = filter_core::shortest_of_three(input.len(), first.len(), second.len());
+        let number = filter_core::then(runs::run_two_refusal(filter, form), count_refusal(count, n));
         if number != 0 {
             return snapshot_answer(number, self);
         }
-        snapshot_answer(0, holds(runs::run_two(filter, form, input, first, second)))
+        let after = raised(count, n);
+        snapshot_answer(0, holds(runs::run_two(filter, form, input, first, second), after))
     }
 
-    // Clears what the filter retains of past samples.
+    // Clears what the filter retains of past samples. The count stays.
     pub fn rest(self) -> SnapshotAnswer
         ensures { λ r. ⌜ sewnPlainly r ≡ restSewn self ⌝ }
     {
@@ -140,7 +152,7 @@ impl Snapshot {
         let Slot::Holds(filter) = slot else {
             return snapshot_answer(6, self);
         };
-        snapshot_answer(0, holds(filter.rest()))
+        snapshot_answer(0, holds(filter.rest(), self.count))
     }
 }
 
@@ -243,6 +255,11 @@ pub fn head_follows()
 // Each number is answered in its row's case of the refusal table, and in no other.
 pub fn head_by_rows()
     ensures { λ _. ⌜ HeadByRows ⌝ }
+{}
+
+// A history's count is the sum of its samples since the last load, and no count of calls is above what 32 bits hold.
+pub fn counts_are_sums()
+    ensures { λ _. ⌜ CountsAreSums ⌝ }
 {}
 
 // From a rest on, a head's filter is what it would be if the head had just been loaded.

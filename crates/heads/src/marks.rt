@@ -9,7 +9,10 @@ ghost use Rattle.heads.specs.Head.{onlyIf, marksBelow};
 pub(crate) fn empty_snapshot() -> Snapshot
     ensures { λ r. ⌜ r ≡ emptySnapshot ⌝ }
 {
-    Snapshot { slot: Slot::Empty }
+    Snapshot {
+        slot: Slot::Empty,
+        count: 0,
+    }
 }
 
 fn only_if(on: bool, snapshot: Snapshot) -> Snapshot

@@ -1,0 +1,20 @@
+// The count of the samples that a head has sewn since its load.
+
+ghost use mathlib.Core.Path.{_≡_};
+ghost use Prim.Native.Nat.{_+_, _≤_};
+ghost use Rattle.heads.specs.Snapshot.{greatestCount, countRefusal};
+
+// The number that a run over n samples gets: 18 where it would take the count above what 32 bits hold, or 0. What is left of them is compared,
+// since the sum may not fit where n is near the greatest length.
+pub(crate) fn count_refusal(count: u32, n: usize) -> u8
+    ensures { λ r. ⌜ r ≡ countRefusal count n ⌝ }
+{
+    if ((u32::MAX - count) as usize) < n { 18 } else { 0 }
+}
+
+pub(crate) fn raised(count: u32, n: usize) -> u32
+    requires { ⌜ count + n ≤ greatestCount ⌝ }
+    ensures { λ r. ⌜ r ≡ count + n ⌝ }
+{
+    count + n as u32
+}
