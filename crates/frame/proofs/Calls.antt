@@ -5,6 +5,7 @@ use mathlib.Core.List.{List}
 use borrow.Author.Needs.{needs}
 use borrow.Author.Tests.{lt-ltb, le-ltb, le-leb, lt-leb}
 use lib.ListN.{replicate}
+use lib.Seq.{set-getD}
 use lib.Ieee.{Float}
 use Rattle.filter_core.proofs.Refusals.{refusing, accepting}
 use Rattle.sheets.specs.declared.entry.Entry.{Entry}
@@ -13,7 +14,7 @@ use Rattle.library.specs.declared.Library.{Library}
 use Rattle.library.specs.declared.Reading.{Reading}
 use Rattle.library.specs.declared.Written.{Written}
 use Rattle.runs.specs.declared.RunForm.{RunForm}
-use Rattle.heads.specs.Act.{Act, run, runTwo, rest, mark, back, drop}
+use Rattle.heads.specs.Act.{Act, run, runTwo, rest, mark, back, drop, count}
 use Rattle.heads.specs.Snapshot.{loadedWith, Sewn, runSewn, runTwoSewn, restSewn, sewnPlainly, sewnWith, sewnWithTwo}
 use Rattle.heads.specs.Head.{emptyHead, holding, Turned, put, turn, turnedPlainly, turnedWithMark}
 use Rattle.heads.specs.declared.Snapshot.{Snapshot}
@@ -22,7 +23,7 @@ use Rattle.heads.specs.declared.Head.{Head}
 use Rattle.heads.specs.declared.HeadAnswer.{HeadAnswer}
 use Rattle.heads.specs.declared.HeadMarked.{HeadMarked}
 use Rattle.frame.specs.Call.{opening, writing, loading, at}
-use Rattle.frame.specs.Calls.{headAt, withHead, withLibrary, freshFrame, refuse, settled, taken, perform, numbered, heldAnswer, headAnswer, plainly, acting, withOutput, withOutputs, withMark, withWritten, showOf}
+use Rattle.frame.specs.Calls.{headAt, noHead, withHead, withLibrary, freshFrame, refuse, settled, taken, perform, numbered, heldAnswer, headAnswer, plainly, acting, withOutput, withOutputs, withMark, withCount, withWritten, showOf}
 use Rattle.frame.specs.declared.Frame.{Frame}
 use Rattle.frame.specs.declared.Answer.{Answer}
 use Rattle.frame.specs.declared.Shown.{Shown}
@@ -131,6 +132,15 @@ module _ (f : Frame) (h : ℕ) where
         → withMark (record { number = q .number; mark = q .mark; frame = g }) ≡ perform f (at h mark)
     marks q g e c = rw e (below mark (turnedWithMark q) l (c ∙ ap (λ (k : Head). turn k mark) b))
 
+  -- ---- the count, which changes nothing
+
+  pub count-head : 11 < h → withCount (record { number = 1; count = 0; frame = f }) ≡ perform f (at h count)
+  count-head l = rw (above count l) refl
+
+  pub counts : (s : Snapshot) → h ≤ 11 → s ≡ headAt f h .now → withCount (record { number = 0; count = s .count; frame = f }) ≡ perform f (at h count)
+  unfolding perform turn
+  counts s l e = rw (le-ltb _ _ l, set-getD (f .heads) h noHead, e) refl
+
   -- ---- show
 
   pub show-head : (y : Head) → 11 < h → y ≡ emptyHead → _≡_ {A = Shown} (record { number = 1; head = y; frame = f }) (showOf f h)
@@ -143,4 +153,4 @@ module _ (f : Frame) (h : ℕ) where
 
 -- what `search` is handed at each return of a call
 pub ruleset calls =
-    (fresh, holds-at, settles, settles-head, open-refused, open-accepted, written, load-head, load-entry, load-accepted, rest-head, back-head, drop-head, run-head, two-head, mark-head, rests, runs, runs-two, acts, marks, show-head, show-accepted, needs)
+    (fresh, holds-at, settles, settles-head, open-refused, open-accepted, written, load-head, load-entry, load-accepted, rest-head, back-head, drop-head, run-head, two-head, mark-head, rests, runs, runs-two, acts, marks, count-head, counts, show-head, show-accepted, needs)

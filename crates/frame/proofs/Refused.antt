@@ -9,7 +9,7 @@ use lib.Seq.{set-getD}
 use Rattle.lists.proofs.Over.{over-none}
 use Rattle.sheets.specs.Sheet.{checkOf}
 use Rattle.library.specs.Library.{writeOf}
-use Rattle.heads.specs.Act.{Act, run, runTwo, rest, mark, back, drop, headNumber, refusedAct}
+use Rattle.heads.specs.Act.{Act, run, runTwo, rest, mark, back, drop, count, headNumber, refusedAct}
 use Rattle.heads.specs.Head.{turn}
 use Rattle.heads.proofs.Refused as head
 use Rattle.frame.specs.Call.{Call, opening, writing, loading, at, numberIn, refused}
@@ -46,6 +46,7 @@ refused-number rest = refl
 refused-number mark = refl
 refused-number (back m) = refl
 refused-number (drop m) = refl
+refused-number count = refl
 
 -- a head that a refused call leaves is put back where it stood
 put-back : (f : Frame) (h : ℕ) (a : Act) → Leaves f (at h a) (settled f h (turn (headAt f h) a))

@@ -47,7 +47,7 @@ upheld H cs S =
       replies = r .replies;
       heads = λ h l. rw (r .frame, getD-table 12 (λ j. headFor (advanceAll H cs .heads j)) h noHead l);
       empty =
-          λ h l e. no-events (advanceAll H cs .heads h .history) _ (r .sound .each h .good)
+          λ h l e. no-events (advanceAll H cs .heads h .history) _ (r .sound .each h .good .fits)
           (rw (r .frame, getD-table 12 (λ j. headFor (advanceAll H cs .heads j)) h noHead l) at e);
       bare = λ h l e. rw (r .frame, getD-table 12 (λ j. headFor (advanceAll H cs .heads j)) h noHead l, e);
       standing = λ h l. rw (r .frame, getD-table 12 (λ j. headFor (advanceAll H cs .heads j)) h noHead l);

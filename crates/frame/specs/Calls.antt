@@ -9,7 +9,7 @@ use Rattle.sheets.specs.Sheet.{checkOf}
 use Rattle.sheets.specs.declared.entry.Entry.{Entry}
 use Rattle.library.specs.Library.{none, libraryOf, entryAt, writeOf, writtenOf}
 use Rattle.library.specs.declared.Library.{Library}
-use Rattle.heads.specs.Act.{answered, marked, ran, ranTwo}
+use Rattle.heads.specs.Act.{answered, marked, ran, ranTwo, counted}
 use Rattle.heads.specs.Snapshot.{emptySnapshot, loadedWith}
 use Rattle.heads.specs.Head.{emptyHead, holding, Turned, turn}
 use Rattle.heads.specs.declared.Head.{Head}
@@ -19,6 +19,7 @@ use Rattle.frame.specs.Call.{Call, opening, writing, loading, at, Reply,
 use Rattle.frame.specs.declared.Frame.{Frame}
 use Rattle.frame.specs.declared.Answer.{Answer}
 use Rattle.frame.specs.declared.Marked.{Marked}
+use Rattle.frame.specs.declared.Counted.{Counted}
 use Rattle.frame.specs.declared.Wrote.{Wrote}
 use Rattle.frame.specs.declared.Shown.{Shown}
 
@@ -101,6 +102,9 @@ withOutputs a ys zs = record { reply = acted (ranTwo (a .number) ys zs); frame =
 
 abbrev pub withMark : Marked → Done
 withMark a = record { reply = acted (marked (a .number) (a .mark)); frame = a .frame }
+
+abbrev pub withCount : Counted → Done
+withCount a = record { reply = acted (counted (a .number) (a .count)); frame = a .frame }
 
 abbrev pub withWritten : Wrote → List ℕ → Done
 withWritten a out = record { reply = wrote (a .number) (a .length) out; frame = a .frame }

@@ -9,9 +9,9 @@ use library::Library;
 use runs::RunForm;
 ghost use mathlib.Core.Path.{_≡_};
 ghost use Prim.Native.Nat.{_≤_};
-ghost use Rattle.heads.specs.Act.{run, runTwo, rest, mark, back, drop};
+ghost use Rattle.heads.specs.Act.{run, runTwo, rest, mark, back, drop, count};
 ghost use Rattle.frame.specs.Call.{opening, writing, loading, at};
-ghost use Rattle.frame.specs.Calls.{headAt, withHead, numbered, heldAnswer, headAnswer, freshFrame, perform, plainly, acting, withOutput, withOutputs, withMark, withWritten, showOf};
+ghost use Rattle.frame.specs.Calls.{headAt, withHead, numbered, heldAnswer, headAnswer, freshFrame, perform, plainly, acting, withOutput, withOutputs, withMark, withCount, withWritten, showOf};
 ghost use Rattle.frame.specs.Refused.{RefusedLeaves};
 ghost use Rattle.frame.specs.Rows.{NumbersByRows};
 ghost use Rattle.frame.specs.Demand.{Demand3};
@@ -31,6 +31,13 @@ pub struct Answer {
 pub struct Marked {
     pub number: u8,
     pub mark: usize,
+    pub frame: Frame,
+}
+
+// How many samples the head has sewn since its load, which is 0 where the call is refused.
+pub struct Counted {
+    pub number: u8,
+    pub count: u32,
     pub frame: Frame,
 }
 
@@ -226,6 +233,25 @@ impl Frame {
             return answer_of(1, self);
         }
         settle_head(self, head, head_at(self, head).drop(m))
+    }
+
+    // How many samples a head has sewn since its load: 0 for an empty one.
+    pub fn count(self, head: usize) -> Counted
+        ensures { λ r. ⌜ withCount r ≡ perform self (at head count) ⌝ }
+    {
+        if 11 < head {
+            return Counted {
+                number: 1,
+                count: 0,
+                frame: self,
+            };
+        }
+        let held = held_at(self, head);
+        Counted {
+            number: 0,
+            count: held.count,
+            frame: self,
+        }
     }
 
     // Writes the library as a sheet.
