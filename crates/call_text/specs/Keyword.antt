@@ -24,6 +24,7 @@ lines =
     ∷ (ascii "check1", BytesNumber)
     ∷ (ascii "lookup1", BytesNumber)
     ∷ (ascii "convert", Convert)
+    ∷ (ascii "count", Head)
     ∷ []
 
 abbrev pub keywords : List (List ℕ)

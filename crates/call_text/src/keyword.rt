@@ -35,6 +35,8 @@ pub const LOOKUP1: usize = 13;
 
 pub const CONVERT: usize = 14;
 
+pub const COUNT: usize = 15;
+
 // What stands behind a keyword.
 pub(crate) enum Shape {
     Head,
@@ -53,7 +55,7 @@ pub fn number_of(s: &[u8]) -> usize
 {
     form_text::name_index(
         s,
-        b"open load run two rest mark back drop write check lookup head check1 lookup1 convert",
+        b"open load run two rest mark back drop write check lookup head check1 lookup1 convert count",
     )
 }
 
@@ -76,6 +78,7 @@ pub(crate) fn shape_of(keyword: usize) -> Shape
         CHECK1 => Shape::BytesNumber,
         LOOKUP1 => Shape::BytesNumber,
         CONVERT => Shape::Convert,
+        COUNT => Shape::Head,
         _ => Shape::NoShape,
     }
 }

@@ -4,6 +4,7 @@ use crate::faults;
 use crate::samples::of_run;
 use crate::samples::of_two;
 use crate::text::put_bad_line;
+use crate::text::put_count;
 use crate::text::put_head;
 use crate::text::put_keyword;
 use crate::text::put_long_line;
@@ -15,6 +16,7 @@ use call_text::Call;
 use call_text::keyword::BACK;
 use call_text::keyword::CHECK;
 use call_text::keyword::CHECK1;
+use call_text::keyword::COUNT;
 use call_text::keyword::LOAD;
 use call_text::keyword::LOOKUP;
 use call_text::keyword::MARK;
@@ -85,6 +87,13 @@ fn head(now: Answered, head: usize, out: &mut [u8]) -> Answered {
     Answered { frame, at }
 }
 
+fn count(now: Answered, head: usize, out: &mut [u8]) -> Answered {
+    let answer = now.frame.count(head);
+    let frame = answer.frame;
+    let at = put_count(answer.number, answer.count, out, now.at);
+    Answered { frame, at }
+}
+
 fn of_head(call: Call, now: Answered, out: &mut [u8]) -> Answered {
     let Call::OfHead(keyword, h) = call else {
         return now;
@@ -92,6 +101,7 @@ fn of_head(call: Call, now: Answered, out: &mut [u8]) -> Answered {
     match keyword {
         REST => plain(now.frame.rest(h), out, now.at),
         MARK => mark(now, h, out),
+        COUNT => count(now, h, out),
         _ => head(now, h, out),
     }
 }

@@ -70,6 +70,12 @@ pub(crate) fn put_mark(refusal: u8, mark: usize, out: &mut [u8], at: usize) -> u
     ended(out, b)
 }
 
+pub(crate) fn put_count(refusal: u8, count: u32, out: &mut [u8], at: usize) -> usize {
+    let a = numbered(refusal, out, at);
+    let b = counted(refusal, count as usize, out, a);
+    ended(out, b)
+}
+
 pub(crate) fn put_head(refusal: u8, head: Head, out: &mut [u8], at: usize) -> usize {
     let a = numbered(refusal, out, at);
     if refusal != 0 {

@@ -462,13 +462,13 @@ impl Writer {
                 _ => self.load(head),
             }
         }
-        let line = format!("head {head}");
+        let line = format!("head {head}\ncount {head}");
         self.line(&line);
-        turns + 1
+        turns + 2
     }
 
     fn bad_line(&mut self) {
-        const BAD: [&str; 50] = [
+        const BAD: [&str; 53] = [
             "x",
             " ",
             "open",
@@ -519,6 +519,9 @@ impl Writer {
             "convert 2 0 -",
             "convert 2 - 0g",
             "head 12345678901234567890123",
+            "count",
+            "count 0 0",
+            "count -",
         ];
         match self.numbers.weighted(&[90, 8, 1, 1]) {
             0 => {
@@ -571,7 +574,9 @@ impl Writer {
         let head = self.head();
         match self
             .numbers
-            .weighted(&[330, 130, 100, 60, 60, 35, 50, 40, 20, 20, 20, 20, 20, 20, 8])
+            .weighted(&[
+                330, 130, 100, 60, 60, 35, 50, 40, 20, 20, 20, 20, 20, 20, 40, 8,
+            ])
         {
             0 => self.run(head, 1),
             1 => self.run(head, 2),
@@ -604,6 +609,10 @@ impl Writer {
             }
             12 => return self.returns(head),
             13 => return self.convert(),
+            14 => {
+                let line = format!("count {}", self.number(head));
+                self.line(&line);
+            }
             _ => match self.numbers.weighted(&[80, 10, 9, 1]) {
                 0 => self.bad_line(),
                 1 => self.line(""),
@@ -655,7 +664,7 @@ pub fn letter(k: u64, h: u64) -> String {
 pub const LETTERS: u64 = 9;
 
 /// Every list of exactly so many letters, twelve to a history: each list has a head of its own on a fresh frame, and what the head holds
-/// is asked for at the end. Shorter lists are the starts of these.
+/// and its count are asked for at the end. Shorter lists are the starts of these.
 pub fn short(length: u32) -> impl Iterator<Item = Vec<u8>> {
     // The sheets: one-pole in Exact and naive in approximation 4, at 0.1, in turn, so that two types and both editions are tried.
     let sheets = [
@@ -672,7 +681,7 @@ pub fn short(length: u32) -> impl Iterator<Item = Vec<u8>> {
                 text.push('\n');
                 rest /= LETTERS;
             }
-            text.push_str(&format!("head {h}\n"));
+            text.push_str(&format!("head {h}\ncount {h}\n"));
         }
         text.into_bytes()
     })
@@ -854,11 +863,41 @@ pub fn sample(seed: u64) -> Vec<u8> {
                 "two {h} {form} 3f8000003e800000 {lent} 00000000\n"
             ));
         }
-        text.push_str(&format!("head {h}\nrest {h}\nhead {h}\n"));
+        text.push_str(&format!(
+            "head {h}\ncount {h}\nrest {h}\nhead {h}\ncount {h}\n"
+        ));
         // The first sample after a rest, where the last before it was a 1.
         text.push_str(&format!(
             "run {h} plain:band 3f800000 00000000\nrest {h}\nrun {h} plain:band 00000000 3f800000\nhead {h}\n"
         ));
+    }
+    // All samples within the shortest length count, whichever the form filters; marks keep the count, a load begins anew.
+    text.push_str("\n# Counts.\ncount 12\ncount 11\nload 10 3\ncount 10\n");
+    for line in [
+        "run 10 stride:low:2 3f8000004110000000000000 4048f5c34048f5c34048f5c3",
+        "count 10",
+        "run 10 stride:low:0 3f800000 00000000",
+        "count 10",
+        "mark 10",
+        "run 10 plain:low 3f8000003f800000 00000000",
+        "count 10",
+        "two 10 pair:low:high 3f8000003f800000 0000000000000000 00000000",
+        "count 10",
+        "rest 10",
+        "count 10",
+        "back 10 0",
+        "count 10",
+        "load 10 4",
+        "count 10",
+        "run 10 decimate:high:3 3f800000bf0000000000000000000000 00000000000000000000000000000000",
+        "count 10",
+        "back 10 0",
+        "count 10",
+        "drop 10 0",
+        "count 10",
+    ] {
+        text.push_str(line);
+        text.push('\n');
     }
     text.push_str("\n# Exact below 0.\n");
     for kind in [2u8, 3, 5] {

@@ -24,7 +24,8 @@ struct Node {
     before: List,
     // The kind of the last load in the list.
     kind: u8,
-    // The list's filter, which `--replay` does not read.
+    // The list's count and its filter, which `--replay` does not read.
+    count: u64,
     filter: Filter,
 }
 
@@ -81,6 +82,24 @@ impl List {
         self.0.as_ref().map(|node| node.kind)
     }
 
+    // The samples of its runs since its last load.
+    fn count(&self, replay: bool) -> u64 {
+        if !replay {
+            return self.0.as_ref().map_or(0, |node| node.count);
+        }
+        let mut sum = 0;
+        let mut list = self;
+        while let Some(node) = &list.0 {
+            match &node.item {
+                Item::Load { .. } => break,
+                Item::Run { samples, .. } => sum += samples.len() as u64,
+                Item::Rest => {}
+            }
+            list = &node.before;
+        }
+        sum
+    }
+
     // From an empty head, item by item.
     fn replayed(&self) -> Option<Filter> {
         let mut items = Vec::new();
@@ -107,10 +126,16 @@ impl List {
             Item::Load { kind, .. } => *kind,
             _ => self.kind().expect("a load stands first"),
         };
+        let count = match &item {
+            Item::Load { .. } => 0,
+            Item::Run { samples, .. } => self.count(false) + samples.len() as u64,
+            Item::Rest => self.count(false),
+        };
         List(Some(Rc::new(Node {
             item,
             before: self.clone(),
             kind,
+            count,
             filter,
         })))
     }
@@ -214,6 +239,9 @@ impl Frame {
         }
         let shortest = outputs.iter().map(Vec::len).fold(input.len(), usize::min);
         let samples = &input[..shortest];
+        if head.list.count(replay) + shortest as u64 > u64::from(u32::MAX) {
+            return 18;
+        }
         let mut filter = head.list.filter(replay).unwrap();
         let count = outputs.len();
         let mut places: Vec<&mut [f32]> =
@@ -282,6 +310,12 @@ impl Frame {
         }
         head.row.truncate(mark as usize);
         0
+    }
+
+    /// The samples that a head has sewn since its load; nothing for a head above 11.
+    pub fn count(&mut self, head: u64) -> Option<u64> {
+        let replay = self.replay;
+        Some(self.head(head)?.list.count(replay))
     }
 
     /// The length of the sheet that was written, or the refusal.

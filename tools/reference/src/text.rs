@@ -299,6 +299,17 @@ fn call(frame: &mut Frame, line: &[u8], counts: &mut Counts, to: &mut String) ->
             let refusal = frame.drop(number(head)?, number(mark)?);
             numbered("drop", refusal, counts, to);
         }
+        [b"count", head] => match frame.count(number(head)?) {
+            Some(count) => {
+                counts.add("count accepted", 1);
+                if count > 0 {
+                    counts.add("count above 0", 1);
+                }
+                numbered("count", 0, counts, to);
+                to.push_str(&format!(" {count}"));
+            }
+            None => numbered("count", 1, counts, to),
+        },
         [b"write", out] => {
             let mut out = bytes(out)?;
             let answer = frame.write(&mut out);

@@ -13,7 +13,7 @@ const PROGRAM: &str = "target/bin/frame_calls";
 const REFERENCE: &str = "target/cargo/release/reference";
 const FOLDER: &str = "target/histories";
 
-/// The numbers of the refusals that there are.
+/// The numbers of the refusals that there are, but for 18: no text brings a head to its last count. The program `count_limit` does.
 const REFUSALS: [u8; 13] = [1, 2, 3, 4, 5, 6, 7, 8, 9, 10, 11, 12, 15];
 
 /// How often each thing has to have been tried in a random run.
@@ -216,6 +216,8 @@ fn tried_enough(counts: &Counts) -> bool {
         "lookup1 accepted",
         "open of edition 2",
         "write of edition 2",
+        "count accepted",
+        "count above 0",
     ];
     let mut enough = true;
     for (what, least) in wanted
@@ -267,6 +269,11 @@ fn summary(counts: &Counts) {
         counts.of("check1 accepted"),
         counts.of("check1 declines edition 2"),
         counts.of("lookup1 accepted"),
+    );
+    println!(
+        "counts of a head {}, above 0 {}",
+        counts.of("count accepted"),
+        counts.of("count above 0"),
     );
     println!(
         "conversions: edition 1 to 2 {}, 2 to 1 {}, copies {}; refused with 12 {}, with 15 {}, as no sheet {}",

@@ -25,4 +25,5 @@ shape-of-spec =
     (λ c. search placing)
     (λ c. search placing)
     (λ c. search placing)
+    (λ c. search placing)
     (λ c. past-places shapes NoShape (c .match .rest) refl))
