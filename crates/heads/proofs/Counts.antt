@@ -4,19 +4,29 @@ use mathlib.Core.Path.{_≡_, refl, ap, sym, _∙_}
 use mathlib.Core.Bool.{Bool, true, false, cond}
 use mathlib.Core.List.{List, [], _∷_, _++_}
 use native.Mathlib.Omega.{arith}
-use borrow.Author.Tests.{ltb-false}
-use lib.Dec.{ltb}
-use Rattle.heads.specs.Snapshot.{greatestCount, countRefusal}
+use borrow.Author.Tests.{ltb-false, eqb-true, eqb-false}
+use lib.Dec.{ltb, eqb}
+use Rattle.heads.specs.Snapshot.{greatestCount, countRefusal, runNumber}
 use Rattle.heads.specs.History.{Event, loadEvent, runEvent, restEvent, sinceWith, sinceFrom, samplesIn, countOf, countWith, snapshotWith, snapshotFrom, snapshotOf}
 use Rattle.heads.specs.declared.Snapshot.{Snapshot}
 
 -- a run that the count does not refuse fits
-pub room : (k n : ℕ) → countRefusal k n ≡ 0 → k + n ≤ greatestCount
+room : (k n : ℕ) → countRefusal k n ≡ 0 → k + n ≤ greatestCount
 room k n e = go (ltb greatestCount (k + n)) refl e
   where
     go : (b : Bool) → ltb greatestCount (k + n) ≡ b → cond {A = ℕ} b 18 0 ≡ 0 → k + n ≤ greatestCount
     go true q e = absurd (omega arith)
     go false q e = ltb-false greatestCount (k + n) q
+
+-- a run that is accepted has its form, and fits; in whichever order the two are asked
+pub run-zero : (o k n : ℕ) → runNumber o k n ≡ 0 → (o ≡ 0) × (k + n ≤ greatestCount)
+run-zero o k n h = go (eqb o 0) refl (eqb (countRefusal k n) 0) refl
+  where
+    go : (a : Bool) → eqb o 0 ≡ a → (b : Bool) → eqb (countRefusal k n) 0 ≡ b → (o ≡ 0) × (k + n ≤ greatestCount)
+    go true p true q = (eqb-true o 0 p, room k n (eqb-true _ _ q))
+    go true p false q = absurd (eqb-false (countRefusal k n) 0 q (simp (p, q) at h))
+    go false p true q = absurd (eqb-false o 0 p (simp (p, q) at h))
+    go false p false q = let a = eqb-false o 0 p in let b = eqb-false (countRefusal k n) 0 q in let z = simp (p, q) at h in absurd (search)
 
 samples-append : (l m : List Event) → samplesIn (l ++ m) ≡ samplesIn l + samplesIn m
 unfolding samplesIn

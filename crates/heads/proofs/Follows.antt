@@ -10,7 +10,6 @@ use lib.Seq.{length-take-le, getD-take}
 use lib.Dec.{eqb, leb, ltb, eqb·suc-suc, eqb·zero-suc, eqb·suc-zero}
 use Rattle.filter_core.specs.Buffer.{within}
 use Rattle.filter_core.specs.Refusal.{unlessRefused}
-use Rattle.filter_core.specs.Rows.{_then_}
 use Rattle.sheets.specs.declared.entry.Entry.{Entry}
 use Rattle.any_filter.specs.Cases.{typeOf}
 use Rattle.any_filter.specs.declared.FilterType.{FilterType}
@@ -18,7 +17,7 @@ use Rattle.any_filter.specs.declared.Filter.{Filter}
 use Rattle.runs.specs.Form.{runRefusal, runTwoRefusal}
 use Rattle.lists.specs.Table.{table}
 use Rattle.heads.specs.Act.{Act, run, runTwo, rest, mark, back, drop, count, HeadReply, answered, marked}
-use Rattle.heads.specs.Snapshot.{emptySnapshot, loadedWith, Sewn, left, onFilter, countRefusal, runBy, runSewn, runTwoBy, runTwoSewn, restBy, restSewn}
+use Rattle.heads.specs.Snapshot.{emptySnapshot, loadedWith, Sewn, left, onFilter, runNumber, runBy, runSewn, runTwoBy, runTwoSewn, restBy, restSewn}
 use Rattle.heads.specs.Head.{emptyHead, holding, Turned, refuseTurn, acceptTurn, put, lastMark, nextMark, markedHead, markBy, marksBelow, onlyIf, restored, backHead, dropHead, atMark, turn}
 use Rattle.heads.specs.History.{Event, loadEvent, HeadHistory, noHistory, lastType, countOf, unlessBare, noMark, actNumber, adding, grownBy, advanceBy, snapshotFrom, snapshotOf, acceptedAct, actReply}
 use Rattle.heads.specs.Follows.{headFor, Fits, bare, held, SoundHead, HeadFollows}
@@ -132,10 +131,10 @@ module _ (x : HeadHistory) (S : SoundHead x) where
   act-turn : (a : Act) → turn (headFor x) a ≡ unless (headFor x) a (actNumber x a) (said a)
   unfolding turn runSewn runTwoSewn restSewn
   act-turn (run form us ys) =
-      asks (run form us ys) (λ k. runRefusal k form then countRefusal (countOf (x .history)) (length (within us ys)))
+      asks (run form us ys) (λ k. runNumber (runRefusal k form) (countOf (x .history)) (length (within us ys)))
       (runBy (snapshotOf (x .history)) form us ys) (λ f e. rw (snapshot-snoc, e, count-is) refl)
   act-turn (runTwo form us ys zs) =
-      asks (runTwo form us ys zs) (λ k. runTwoRefusal k form then countRefusal (countOf (x .history)) (length (within (within us ys) zs)))
+      asks (runTwo form us ys zs) (λ k. runNumber (runTwoRefusal k form) (countOf (x .history)) (length (within (within us ys) zs)))
       (runTwoBy (snapshotOf (x .history)) form us ys zs) (λ f e. rw (snapshot-snoc, e, count-is) refl)
   act-turn rest = asks rest (λ k. 0) (restBy (snapshotOf (x .history))) (λ f e. rw (snapshot-snoc, e) refl)
   act-turn mark = rw (length-append, ← marks-snoc (x .checkpoints) (x .history)) (on-mark (headFor x) (x .history) (snapshotOf (x .history) .slot) (S .good .fits))

@@ -5,9 +5,8 @@ use mathlib.Core.Bool.{Bool, true, false, cond}
 use lib.Dec.{leb, ltb, eqb}
 use lib.ListN.{length}
 use Rattle.filter_core.specs.Buffer.{within}
-use Rattle.filter_core.specs.Rows.{_then_}
 use Rattle.heads.specs.Act.{Act, run, runTwo, rest, mark, back, drop, count, HeadReply, headNumber, refusedAct}
-use Rattle.heads.specs.Snapshot.{countRefusal, Sewn, left, onFilter, runBy, runSewn, runTwoBy, runTwoSewn, restBy, restSewn}
+use Rattle.heads.specs.Snapshot.{runNumber, Sewn, left, onFilter, runBy, runSewn, runTwoBy, runTwoSewn, restBy, restSewn}
 use Rattle.heads.specs.Head.{Turned, refuseTurn, acceptTurn, put, lastMark, markedHead, markBy, backHead, dropHead, turn}
 use Rattle.any_filter.specs.Cases.{typeOf}
 use Rattle.any_filter.specs.declared.Filter.{Filter}
@@ -48,10 +47,10 @@ marks x (Holds f) = either x mark (ltb lastMark (x .marked)) _ _ (refusing x mar
 pub refused-leaves : (x : Head) (a : Act) → (headNumber (turn x a .reply) ≡ 0 → ⊥) → turn x a ≡ refuseTurn x a (headNumber (turn x a .reply))
 unfolding turn runSewn runTwoSewn restSewn
 refused-leaves x (run form us ys) =
-    let n : Filter → ℕ = λ f. runRefusal (typeOf f) form then countRefusal (x .now .count) (length (within us ys)) in
+    let n : Filter → ℕ = λ f. runNumber (runRefusal (typeOf f) form) (x .now .count) (length (within us ys)) in
     on-filter x (run form us ys) (x .now .slot) (runBy (x .now) form us ys) refl (λ f. sews x (run form us ys) (eqb (n f) 0) _ (n f) refl refl)
 refused-leaves x (runTwo form us ys zs) =
-    let n : Filter → ℕ = λ f. runTwoRefusal (typeOf f) form then countRefusal (x .now .count) (length (within (within us ys) zs)) in
+    let n : Filter → ℕ = λ f. runNumber (runTwoRefusal (typeOf f) form) (x .now .count) (length (within (within us ys) zs)) in
     on-filter x (runTwo form us ys zs) (x .now .slot) (runTwoBy (x .now) form us ys zs) refl (λ f. sews x (runTwo form us ys zs) (eqb (n f) 0) _ (n f) refl refl)
 refused-leaves x rest = on-filter x rest (x .now .slot) (restBy (x .now)) refl (λ f z. absurd (z refl))
 refused-leaves x mark = marks x (x .now .slot)

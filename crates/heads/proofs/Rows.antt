@@ -9,13 +9,13 @@ use lib.Dec.{ltb, leb}
 use lib.ListN.{length}
 use lib.Ieee.{Float}
 use Rattle.filter_core.specs.Buffer.{within}
-use Rattle.filter_core.specs.Rows.{_then_, First, none, here, later}
+use Rattle.filter_core.specs.Rows.{First, none, here, later}
 use Rattle.filter_core.proofs.Rows.{exactly, by-test, Step, step-if, step-to, first-last}
 use Rattle.runs.specs.Rows as rows
 use Rattle.runs.specs.declared.RunForm.{RunForm}
 use Rattle.runs.proofs.Rows.{by-rows}
 use Rattle.heads.specs.Act.{Act, run, runTwo, rest, mark, back, drop, count}
-use Rattle.heads.specs.Snapshot.{greatestCount, countRefusal}
+use Rattle.heads.specs.Snapshot.{greatestCount, countRefusal, runNumber}
 use Rattle.heads.specs.History.{Event, HeadHistory, lastType, countOf, unlessBare, actNumber}
 use Rattle.heads.specs.Follows.{SoundHead}
 use Rattle.heads.specs.Rows.{ActCase, bare-run, bare-two, bare-rest, bare-mark, no-back, no-drop, full, no-form, no-form-two, no-step, no-step-two, over-run, over-two, numbersOf, HeadByRows}
@@ -66,7 +66,7 @@ module _ {x : HeadHistory} where
     is-over (over-run l) = l
 
     by-run : {n : ℕ} → First (rows.RunCase rows.Has (lastType (x .history)) form) (9 ∷ 10 ∷ []) n
-        → First (ActCase x (run form us ys)) (9 ∷ 10 ∷ 18 ∷ []) (n then countRefusal (countOf (x .history)) (length (within us ys)))
+        → First (ActCase x (run form us ys)) (9 ∷ 10 ∷ 18 ∷ []) (runNumber n (countOf (x .history)) (length (within us ys)))
     by-run (here (rows.no-form m)) = here (no-form m)
     by-run (later p (here (rows.no-step z))) = later (has-form p) (here (no-step z))
     by-run (later p (later q none)) = later (has-form p) (later (has-step q) (first-last (step-to over-run is-over (over-step _ _))))
@@ -82,7 +82,7 @@ module _ {x : HeadHistory} where
     is-over-two (over-two l) = l
 
     by-run-two : {n : ℕ} → First (rows.RunCase rows.HasTwo (lastType (x .history)) form) (9 ∷ 10 ∷ []) n
-        → First (ActCase x (runTwo form us ys zs)) (9 ∷ 10 ∷ 18 ∷ []) (n then countRefusal (countOf (x .history)) (length (within (within us ys) zs)))
+        → First (ActCase x (runTwo form us ys zs)) (9 ∷ 10 ∷ 18 ∷ []) (runNumber n (countOf (x .history)) (length (within (within us ys) zs)))
     by-run-two (here (rows.no-form m)) = here (no-form-two m)
     by-run-two (later p (here (rows.no-step z))) = later (has-form-two p) (here (no-step-two z))
     by-run-two (later p (later q none)) = later (has-form-two p) (later (has-step-two q) (first-last (step-to over-two is-over-two (over-step _ _))))

@@ -10,8 +10,6 @@ use lib.ListN.{length, getD, take, length-append, length-take}
 use lib.Dec.{eqb, ltb}
 use lib.Ieee.{Float}
 use Rattle.filter_core.specs.Buffer.{within}
-use Rattle.filter_core.specs.Rows.{_then_}
-use Rattle.filter_core.proofs.Rows.{then-zero}
 use Rattle.sheets.specs.declared.entry.Entry.{Entry}
 use Rattle.any_filter.specs.Cases.{typeOf, rested}
 use Rattle.any_filter.specs.declared.FilterType.{FilterType}
@@ -22,11 +20,11 @@ use Rattle.runs.specs.Form.{runRefusal, runTwoRefusal}
 use Rattle.runs.specs.Run.{through}
 use Rattle.runs.specs.declared.RunForm.{RunForm}
 use Rattle.heads.specs.Act.{Act, run, runTwo, rest, mark, back, drop, count}
-use Rattle.heads.specs.Snapshot.{greatestCount, countRefusal}
+use Rattle.heads.specs.Snapshot.{greatestCount, runNumber}
 use Rattle.heads.specs.History.{Event, loadEvent, runEvent, restEvent, HeadHistory, noHistory, typeWith, typeFrom, lastType, sinceFrom, samplesIn, countOf, countWith, unlessBare, actNumber, adding, grownBy, advanceBy, slotWith, snapshotWith, snapshotFrom, snapshotOf}
 use Rattle.heads.specs.Follows.{Fits, bare, held, Good, SoundHead}
 use Rattle.heads.specs.Counts.{CountsAreSums}
-use Rattle.heads.proofs.Counts.{room, count-snoc, count-is}
+use Rattle.heads.proofs.Counts.{run-zero, count-snoc, count-is}
 use Rattle.heads.specs.declared.Slot.{Slot}
 use Rattle.heads.specs.declared.Slot.the-variants.{Holds}
 use Rattle.heads.specs.declared.Snapshot.{Snapshot}
@@ -101,11 +99,11 @@ past-bare [] n q = absurd (omega arith)
 past-bare (i ∷ l) n q = q
 
 -- a is the number of the form
-good-run : (l : List Event) (form : RunForm) (us : List Float) (a : ℕ) → unlessBare l (a then countRefusal (countOf l) (length us)) ≡ 0 → Good l
+good-run : (l : List Event) (form : RunForm) (us : List Float) (a : ℕ) → unlessBare l (runNumber a (countOf l) (length us)) ≡ 0 → Good l
     → Good (l ++ runEvent form us ∷ [])
 good-run l form us a q g =
     good-next (runEvent form us) (λ k. refl) (λ f. through f form us) (λ f. refl) (λ f. type-through f form us) l _ q
-    (room (countOf l) (length us) (then-zero a _ (past-bare l _ q) .1)) g
+    (run-zero a (countOf l) (length us) (past-bare l _ q) .1) g
 
 good-rest : (l : List Event) (n : ℕ) → unlessBare l n ≡ 0 → Good l → Good (l ++ restEvent ∷ [])
 good-rest l n q g = good-next restEvent (λ k. refl) rested (λ f. refl) type-rested l n q (g .small) g

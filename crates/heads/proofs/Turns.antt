@@ -8,9 +8,7 @@ use native.Mathlib.Omega.{arith}
 use lib.ListN.{length, replicate, length-take}
 use lib.Ieee.{Float}
 use Rattle.filter_core.specs.Buffer.{within}
-use Rattle.filter_core.specs.Rows.{_then_}
 use Rattle.filter_core.proofs.Refusals.{refusing, accepting}
-use Rattle.filter_core.proofs.Rows.{then-zero}
 use Rattle.sheets.specs.declared.entry.Entry.{Entry}
 use Rattle.loads.specs.Load.{filterOf}
 use Rattle.any_filter.specs.Cases.{typeOf, rested}
@@ -19,9 +17,9 @@ use Rattle.runs.specs.Form.{runRefusal, runTwoRefusal}
 use Rattle.runs.specs.Run.{Ran, RanTwo}
 use Rattle.runs.specs.declared.RunForm.{RunForm}
 use Rattle.heads.specs.Act.{mark, back, drop}
-use Rattle.heads.specs.Snapshot.{emptySnapshot, holds, loadedWith, greatestCount, countRefusal, runSewn, runTwoSewn, restSewn, sewn, sewnPlainly, sewnWith, sewnWithTwo}
+use Rattle.heads.specs.Snapshot.{emptySnapshot, holds, loadedWith, greatestCount, countRefusal, runNumber, runSewn, runTwoSewn, restSewn, sewn, sewnPlainly, sewnWith, sewnWithTwo}
 use Rattle.heads.specs.Head.{emptyHead, lastMark, markedHead, nextMark, marksBelow, restored, turn, headNumbered, headUnmarked, turnedPlainly, turnedWithMark}
-use Rattle.heads.proofs.Counts.{room}
+use Rattle.heads.proofs.Counts as count
 use Rattle.heads.specs.declared.Slot.the-variants.{Empty, Holds}
 use Rattle.heads.specs.declared.Snapshot.{Snapshot}
 use Rattle.heads.specs.declared.SnapshotAnswer.{SnapshotAnswer}
@@ -54,8 +52,8 @@ module _ (k m : ℕ) where
   count-accepted h l = rw (le-ltb greatestCount (k + m) (omega arith)) refl
 
   -- a run that is accepted fits
-  pub count-fits : (o t n : ℕ) → t ≡ countRefusal k m → n ≡ (o then t) → n ≡ 0 → k + m ≤ greatestCount
-  count-fits o t n b g z = room k m (sym b ∙ then-zero o t (sym g ∙ z) .1)
+  pub count-fits : (o n : ℕ) → n ≡ runNumber o k m → n ≡ 0 → k + m ≤ greatestCount
+  count-fits o n g z = count.run-zero o k m (sym g ∙ z) .1
 
 -- ---- what the head holds
 
@@ -79,41 +77,41 @@ module _ (x : Snapshot) where
     unfolding restSewn
     rest-accepted k y r u i q = rw (q, i, u, e) refl
 
-    -- m is how many samples reach the form, o the number of the form, t that of the count, and n the first of the two
-    module _ (form : RunForm) (us ys : List Float) (m o t n : ℕ) (s : m ≡ min (length us) (length ys)) (d : o ≡ runRefusal (typeOf p) form)
-        (b : t ≡ countRefusal (x .count) m) (g : n ≡ (o then t)) (r : SnapshotAnswer) where
-      run-number : n ≡ (runRefusal (typeOf p) form then countRefusal (x .count) (length (within us ys)))
-      run-number = rw (← d, ← shortest us ys m s, ← b) g
+    -- m is how many samples reach the form, o the number of the form, and n that of the run
+    module _ (form : RunForm) (us ys : List Float) (m o n : ℕ) (s : m ≡ min (length us) (length ys)) (d : o ≡ runRefusal (typeOf p) form)
+        (g : n ≡ runNumber o (x .count) m) (r : SnapshotAnswer) where
+      run-is : n ≡ runNumber (runRefusal (typeOf p) form) (x .count) (length (within us ys))
+      run-is = rw (← d, ← shortest us ys m s) g
 
       pub run-refused : (n ≡ 0 → ⊥) → r ≡ sewn n x → sewnWith r ys ≡ runSewn x form us ys
       unfolding runSewn
-      run-refused z q = rw (q, e, refusing _ _ run-number z, run-number) refl
+      run-refused z q = rw (q, e, refusing _ _ run-is z, run-is) refl
 
       pub run-accepted : (k : Filter) (c : ℕ) (ys′ : List Float) (y : Snapshot) → n ≡ 0 → Ran p form (within us ys) ys k ys′ → c ≡ x .count + m
           → y ≡ holds k c → r ≡ sewn 0 y → sewnWith r ys′ ≡ runSewn x form us ys
       unfolding runSewn
       run-accepted k c ys′ y z a l i q =
-          let f = accepting _ _ d (then-zero o t (sym g ∙ z) .0) in
+          let f = accepting _ _ d (count.run-zero o (x .count) m (sym g ∙ z) .0) in
           let u = rw f at (a .filter-is) in
-          let v = rw f at (a .output-is) in rw (q, i, u, v, l, shortest us ys m s, e, accepting _ _ run-number z) refl
+          let v = rw f at (a .output-is) in rw (q, i, u, v, l, shortest us ys m s, e, accepting _ _ run-is z) refl
 
-    module _ (form : RunForm) (us ys zs : List Float) (m o t n : ℕ) (s : m ≡ min (length us) (min (length ys) (length zs)))
-        (d : o ≡ runTwoRefusal (typeOf p) form) (b : t ≡ countRefusal (x .count) m) (g : n ≡ (o then t)) (r : SnapshotAnswer) where
-      two-number : n ≡ (runTwoRefusal (typeOf p) form then countRefusal (x .count) (length (within (within us ys) zs)))
-      two-number = rw (← d, ← shortest-of-three us ys zs m s, ← b) g
+    module _ (form : RunForm) (us ys zs : List Float) (m o n : ℕ) (s : m ≡ min (length us) (min (length ys) (length zs)))
+        (d : o ≡ runTwoRefusal (typeOf p) form) (g : n ≡ runNumber o (x .count) m) (r : SnapshotAnswer) where
+      two-is : n ≡ runNumber (runTwoRefusal (typeOf p) form) (x .count) (length (within (within us ys) zs))
+      two-is = rw (← d, ← shortest-of-three us ys zs m s) g
 
       pub two-refused : (n ≡ 0 → ⊥) → r ≡ sewn n x → sewnWithTwo r ys zs ≡ runTwoSewn x form us ys zs
       unfolding runTwoSewn
-      two-refused z q = rw (q, e, refusing _ _ two-number z, two-number) refl
+      two-refused z q = rw (q, e, refusing _ _ two-is z, two-is) refl
 
       pub two-accepted : (k : Filter) (c : ℕ) (ys′ zs′ : List Float) (y : Snapshot) → n ≡ 0 → RanTwo p form (within (within us ys) zs) ys zs k ys′ zs′
           → c ≡ x .count + m → y ≡ holds k c → r ≡ sewn 0 y → sewnWithTwo r ys′ zs′ ≡ runTwoSewn x form us ys zs
       unfolding runTwoSewn
       two-accepted k c ys′ zs′ y z a l i q =
-          let f = accepting _ _ d (then-zero o t (sym g ∙ z) .0) in
+          let f = accepting _ _ d (count.run-zero o (x .count) m (sym g ∙ z) .0) in
           let u = rw f at (a .filter-is) in
           let v = rw f at (a .first-is) in
-          let w = rw f at (a .second-is) in rw (q, i, u, v, w, l, shortest-of-three us ys zs m s, e, accepting _ _ two-number z) refl
+          let w = rw f at (a .second-is) in rw (q, i, u, v, w, l, shortest-of-three us ys zs m s, e, accepting _ _ two-is z) refl
 
 -- ---- marks
 

@@ -7,7 +7,6 @@ use lib.Dec.{leb, ltb, eqb}
 use lib.ListN.{length, getD, take}
 use lib.Ieee.{Float}
 use Rattle.filter_core.specs.Buffer.{within}
-use Rattle.filter_core.specs.Rows.{_then_}
 use Rattle.sheets.specs.declared.entry.Entry.{Entry}
 use Rattle.any_filter.specs.Cases.{typeOf, rested}
 use Rattle.any_filter.specs.declared.FilterType.{FilterType}
@@ -17,7 +16,7 @@ use Rattle.runs.specs.Run.{through, firstOutput, secondOutput}
 use Rattle.runs.specs.declared.RunForm.{RunForm}
 use Rattle.loads.specs.Load.{filterOf}
 use Rattle.heads.specs.Act.{Act, run, runTwo, rest, mark, back, drop, count, HeadReply, answered, marked, ran, ranTwo, counted, refusedAct}
-use Rattle.heads.specs.Snapshot.{countRefusal}
+use Rattle.heads.specs.Snapshot.{runNumber}
 use Rattle.heads.specs.declared.Slot.{Slot}
 use Rattle.heads.specs.declared.Slot.the-variants.{Empty, Holds}
 use Rattle.heads.specs.declared.Snapshot.{Snapshot}
@@ -92,9 +91,9 @@ noMark x m = cond (leb (length (x .checkpoints)) m) 7 0
 
 abbrev pub actNumber : HeadHistory → Act → ℕ
 actNumber x (run form us ys) =
-    unlessBare (x .history) (runRefusal (lastType (x .history)) form then countRefusal (countOf (x .history)) (length (within us ys)))
+    unlessBare (x .history) (runNumber (runRefusal (lastType (x .history)) form) (countOf (x .history)) (length (within us ys)))
 actNumber x (runTwo form us ys zs) =
-    unlessBare (x .history) (runTwoRefusal (lastType (x .history)) form then countRefusal (countOf (x .history)) (length (within (within us ys) zs)))
+    unlessBare (x .history) (runNumber (runTwoRefusal (lastType (x .history)) form) (countOf (x .history)) (length (within (within us ys) zs)))
 actNumber x rest = unlessBare (x .history) 0
 actNumber x mark = unlessBare (x .history) (markRefusal x)
 actNumber x (back m) = noMark x m

@@ -40,6 +40,10 @@ greatestCount = 0xffff_ffff
 abbrev pub countRefusal : ℕ → ℕ → ℕ
 countRefusal count n = cond (ltb greatestCount (count + n)) 18 0
 
+-- the number of such a run, by that of its form: 18 comes last
+abbrev pub runNumber : ℕ → ℕ → ℕ → ℕ
+runNumber form count n = form then countRefusal count n
+
 -- ---- what a call comes to
 
 -- what the caller sees, and what the head holds then
@@ -59,7 +63,7 @@ onFilter (Holds f) bare t = t f
 abbrev pub runBy : Snapshot → RunForm → List Float → List Float → Filter → Sewn
 runBy s form us ys f =
     let xs = within us ys in
-    let number = runRefusal (typeOf f) form then countRefusal (s .count) (length xs) in
+    let number = runNumber (runRefusal (typeOf f) form) (s .count) (length xs) in
     unlessRefused number (left s (run form us ys) number)
     (record { reply = ran 0 (firstOutput f form xs ys); now = holds (through f form xs) (s .count + length xs) })
 
@@ -69,7 +73,7 @@ runSewn s form us ys = onFilter (s .slot) (left s (run form us ys) 6) (runBy s f
 abbrev pub runTwoBy : Snapshot → RunForm → List Float → List Float → List Float → Filter → Sewn
 runTwoBy s form us ys zs f =
     let xs = within (within us ys) zs in
-    let number = runTwoRefusal (typeOf f) form then countRefusal (s .count) (length xs) in
+    let number = runNumber (runTwoRefusal (typeOf f) form) (s .count) (length xs) in
     unlessRefused number (left s (runTwo form us ys zs) number)
     (record { reply = ranTwo 0 (firstOutput f form xs ys) (secondOutput f form xs zs); now = holds (through f form xs) (s .count + length xs) })
 

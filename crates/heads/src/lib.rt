@@ -5,8 +5,8 @@ mod count;
 mod marks;
 
 use any_filter::Filter;
-use count::count_refusal;
 use count::raised;
+use count::run_number;
 use marks::empty_snapshot;
 use marks::marks_below;
 use runs::RunForm;
@@ -112,7 +112,7 @@ impl Snapshot {
         };
         let count = self.count;
         let n = filter_core::shortest(input.len(), output.len());
-        let number = filter_core::then(runs::run_refusal(filter, form), count_refusal(count, n));
+        let number = run_number(runs::run_refusal(filter, form), count, n);
         if number != 0 {
             return snapshot_answer(number, self);
         }
@@ -136,12 +136,15 @@ impl Snapshot {
         };
         let count = self.count;
         let n = filter_core::shortest_of_three(input.len(), first.len(), second.len());
-        let number = filter_core::then(runs::run_two_refusal(filter, form), count_refusal(count, n));
+        let number = run_number(runs::run_two_refusal(filter, form), count, n);
         if number != 0 {
             return snapshot_answer(number, self);
         }
         let after = raised(count, n);
-        snapshot_answer(0, holds(runs::run_two(filter, form, input, first, second), after))
+        snapshot_answer(
+            0,
+            holds(runs::run_two(filter, form, input, first, second), after),
+        )
     }
 
     // Clears what the filter retains of past samples. The count stays.

@@ -20,5 +20,4 @@ run-spec =
     (λ c. search turns)
     (λ c. search turns)
     (λ c. search turns)
-    (λ c. search turns)
     (λ c. search turns))

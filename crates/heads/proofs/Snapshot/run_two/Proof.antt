@@ -21,5 +21,4 @@ run-two-spec =
     (λ c. search turns)
     (λ c. search turns)
     (λ c. search turns)
-    (λ c. search turns)
     (λ c. search turns))
