@@ -1,14 +1,24 @@
 -- The count of a history, event by event. Assumes nothing.
-use Prim.Native.Nat.{ℕ, _+_, _≤_}
+use Prim.Native.Nat.{ℕ, _+_, _-_, _≤_, _<_}
 use mathlib.Core.Path.{_≡_, refl, ap, sym, _∙_}
 use mathlib.Core.Bool.{Bool, true, false, cond}
 use mathlib.Core.List.{List, [], _∷_, _++_}
 use native.Mathlib.Omega.{arith}
-use borrow.Author.Tests.{ltb-false, eqb-true, eqb-false}
+use borrow.Author.Tests.{lt-ltb, le-ltb, ltb-false, eqb-true, eqb-false}
 use lib.Dec.{ltb, eqb}
 use Rattle.heads.specs.Snapshot.{greatestCount, countRefusal, runNumber}
 use Rattle.heads.specs.History.{Event, loadEvent, runEvent, restEvent, sinceWith, sinceFrom, samplesIn, countOf, countWith, snapshotWith, snapshotFrom, snapshotOf}
 use Rattle.heads.specs.declared.Snapshot.{Snapshot}
+
+-- ---- 18
+
+-- as the code asks for it: by what is left
+module _ (k n : ℕ) where
+  pub over : greatestCount - k < n → 18 ≡ countRefusal k n
+  over l = rw (lt-ltb greatestCount (k + n) (omega arith)) refl
+
+  pub under : k ≤ greatestCount → n ≤ greatestCount - k → 0 ≡ countRefusal k n
+  under h l = rw (le-ltb greatestCount (k + n) (omega arith)) refl
 
 -- a run that the count does not refuse fits
 room : (k n : ℕ) → countRefusal k n ≡ 0 → k + n ≤ greatestCount
@@ -27,6 +37,8 @@ run-zero o k n h = go (eqb o 0) refl (eqb (countRefusal k n) 0) refl
     go true p false q = absurd (eqb-false (countRefusal k n) 0 q (simp (p, q) at h))
     go false p true q = absurd (eqb-false o 0 p (simp (p, q) at h))
     go false p false q = let a = eqb-false o 0 p in let b = eqb-false (countRefusal k n) 0 q in let z = simp (p, q) at h in absurd (search)
+
+-- ---- counts of histories
 
 samples-append : (l m : List Event) → samplesIn (l ++ m) ≡ samplesIn l + samplesIn m
 unfolding samplesIn

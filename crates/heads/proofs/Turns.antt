@@ -1,5 +1,5 @@
 -- What each call comes to in each of its cases, over plain values: the functions' proofs hand their facts to these. Assumes nothing.
-use Prim.Native.Nat.{ℕ, _+_, _-_, min, _≤_, _<_}
+use Prim.Native.Nat.{ℕ, _+_, min, _≤_, _<_}
 use mathlib.Core.Path.{_≡_, refl, sym, _∙_}
 use mathlib.Core.List.{List}
 use borrow.Author.Needs.{needs}
@@ -17,7 +17,7 @@ use Rattle.runs.specs.Form.{runRefusal, runTwoRefusal}
 use Rattle.runs.specs.Run.{Ran, RanTwo}
 use Rattle.runs.specs.declared.RunForm.{RunForm}
 use Rattle.heads.specs.Act.{mark, back, drop}
-use Rattle.heads.specs.Snapshot.{emptySnapshot, holds, loadedWith, greatestCount, countRefusal, runNumber, runSewn, runTwoSewn, restSewn, sewn, sewnPlainly, sewnWith, sewnWithTwo}
+use Rattle.heads.specs.Snapshot.{emptySnapshot, holds, loadedWith, greatestCount, runNumber, runSewn, runTwoSewn, restSewn, sewn, sewnPlainly, sewnWith, sewnWithTwo}
 use Rattle.heads.specs.Head.{emptyHead, lastMark, markedHead, nextMark, marksBelow, restored, turn, headNumbered, headUnmarked, turnedPlainly, turnedWithMark}
 use Rattle.heads.proofs.Counts as count
 use Rattle.heads.specs.declared.Slot.the-variants.{Empty, Holds}
@@ -44,16 +44,9 @@ shortest us ys m e = omega (arith, length-take (length ys) us)
 shortest-of-three : (us ys zs : List Float) (m : ℕ) → m ≡ min (length us) (min (length ys) (length zs)) → m ≡ length (within (within us ys) zs)
 shortest-of-three us ys zs m e = omega (arith, length-take (length zs) (within us ys), length-take (length ys) us)
 
-module _ (k m : ℕ) where
-  pub count-refused : greatestCount - k < m → 18 ≡ countRefusal k m
-  count-refused l = rw (lt-ltb greatestCount (k + m) (omega arith)) refl
-
-  pub count-accepted : k ≤ greatestCount → m ≤ greatestCount - k → 0 ≡ countRefusal k m
-  count-accepted h l = rw (le-ltb greatestCount (k + m) (omega arith)) refl
-
-  -- a run that is accepted fits
-  pub count-fits : (o n : ℕ) → n ≡ runNumber o k m → n ≡ 0 → k + m ≤ greatestCount
-  count-fits o n g z = count.run-zero o k m (sym g ∙ z) .1
+-- a run that is accepted fits
+pub count-fits : (o k m n : ℕ) → n ≡ runNumber o k m → n ≡ 0 → k + m ≤ greatestCount
+count-fits o k m n g z = count.run-zero o k m (sym g ∙ z) .1
 
 -- ---- what the head holds
 
@@ -158,4 +151,4 @@ module _ (x : Head) where
 
 -- what `search` is handed at each return of a call
 pub ruleset turns =
-    (fresh, loading, count-refused, count-accepted, count-fits, rest-bare, run-bare, two-bare, rest-accepted, run-refused, run-accepted, two-refused, two-accepted, mark-bare, mark-full, mark-accepted, back-none, back-past, back-accepted, drop-none, drop-past, drop-accepted, needs)
+    (fresh, loading, count-fits, rest-bare, run-bare, two-bare, rest-accepted, run-refused, run-accepted, two-refused, two-accepted, mark-bare, mark-full, mark-accepted, back-none, back-past, back-accepted, drop-none, drop-past, drop-accepted, needs)

@@ -29,8 +29,9 @@ use Rattle.library.specs.Library.{zeroBytes, libraryOf, bytesOf, entryAt}
 use Rattle.conversion.specs.Conversion.{convertOf, convertedOf}
 use Rattle.any_filter.specs.declared.Filter.the-variants.{Dc, OnePole as OnePoleIn}
 use Rattle.loads.specs.Load.{filterOf}
-use Rattle.runs.specs.declared.RunForm.the-variants.{Plain}
-use Rattle.heads.specs.Act.{run, rest, mark, back, answered, marked, ran}
+use Rattle.runs.specs.declared.RunForm.the-variants.{Plain, Stride}
+use Rattle.heads.specs.Act.{run, rest, mark, back, count, answered, marked, ran, counted}
+use Rattle.heads.specs.Snapshot.{countRefusal}
 use Rattle.frame.specs.Call.{Call, opening, loading, at, plain, acted}
 use Rattle.frame.specs.History.{noHistories, repliesTo}
 
@@ -117,6 +118,29 @@ accurateSheet v = 0x01 ∷ v ∷ 0x12 ∷ 0x00 ∷ 0x00 ∷ 0x00 ∷ 0x3f ∷ ze
 -- an output with room for a byte more than these
 abbrev pub longer : List ℕ
 longer = zeroBytes 15 ++ 0xee ∷ []
+
+-- a sheet of one entry, the Svf of S3
+abbrev pub svfSheet : List ℕ
+svfSheet = 0x01 ∷ 0x00 ∷ 0x04 ∷ 0x00 ∷ 0x00 ∷ 0x80 ∷ 0x3f ∷ 0x00 ∷ 0x00 ∷ 0x80 ∷ 0x3f ∷ 0x00 ∷ 0x00 ∷ 0x80 ∷ 0x3e ∷ []
+
+abbrev pub runStride : Call
+runStride = at 0 (run (Stride LowPass 2) (oneᶠ ∷ word 0x4110_0000 ∷ zeroᶠ ∷ []) (kept ∷ kept ∷ kept ∷ []))
+
+abbrev pub sewing : List Call
+sewing =
+    opening svfSheet
+    ∷ loading 0 0
+    ∷ runStride
+    ∷ at 0 mark
+    ∷ runStride
+    ∷ at 0 rest
+    ∷ at 0 count
+    ∷ at 0 (back 0)
+    ∷ at 0 count
+    ∷ loading 0 0
+    ∷ at 0 count
+    ∷ at 12 count
+    ∷ []
 
 -- ---- the table
 
@@ -216,3 +240,22 @@ pub record WorkedExamples : Type 0 where
   pub converted-copy : convertedOf Two (seriesSheet 2) longer ≡ seriesSheet 2 ++ 0xee ∷ []
   pub converted-short : convertOf One (accurateSheet 2) (zeroBytes 14) ≡ record { number = 12; length = 0 }
   pub not-converted : convertOf One (seriesSheet 2) (zeroBytes 14) ≡ record { number = 15; length = 0 }
+  -- document 02, i: two strides of 2 over three samples count six, and a rest leaves them; back to the mark there are three, after a load none.
+  -- The last sample that 32 bits count is sewn, one more is refused
+  pub count-replies :
+      repliesTo noHistories sewing
+      ≡ plain 0
+      ∷ plain 0
+      ∷ acted (ran 0 (quarterᶠ ∷ kept ∷ five-eighthsᶠ ∷ []))
+      ∷ acted (marked 0 0)
+      ∷ acted (ran 0 (word 0x3f30_0000 ∷ kept ∷ word 0x3f08_0000 ∷ []))
+      ∷ acted (answered 0)
+      ∷ acted (counted 0 6)
+      ∷ acted (answered 0)
+      ∷ acted (counted 0 3)
+      ∷ plain 0
+      ∷ acted (counted 0 0)
+      ∷ acted (counted 1 0)
+      ∷ []
+  pub count-last : countRefusal 4294967294 1 ≡ 0
+  pub count-over : countRefusal 4294967295 1 ≡ 18

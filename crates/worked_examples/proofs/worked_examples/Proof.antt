@@ -10,14 +10,14 @@ use Rattle.library.specs.Library.{zeroBytes}
 use Rattle.any_filter.specs.Cases.{rested}
 use Rattle.runs.specs.Run.{through, firstOutput}
 use Rattle.loads.specs.Load.{filterFor}
-use Rattle.heads.specs.History.{typeFrom, snapshotFrom}
+use Rattle.heads.specs.History.{typeFrom, sinceFrom, samplesIn, snapshotFrom}
 use Rattle.frame.specs.History.{repliesTo, replyTo, advance, callNumber}
 use Rattle.worked_examples.specs.Examples.{WorkedExamples}
 use Rattle.worked_examples.proofs.worked_examples.Statement.{statement}
 use Rattle.worked_examples.proofs.worked_examples.Tie as tie
 
 computed : WorkedExamples
-unfolding ofBits add sub mul div neg lt le isNan firstRefusal entryRefusal over zeroBytes rested filterFor through firstOutput repliesTo replyTo advance callNumber typeFrom snapshotFrom svfNext svfOut svfMixed naiveLow naiveHigh naiveNext naiveOut modifiedNext modifiedOut crossoverNext crossoverOut
+unfolding ofBits add sub mul div neg lt le isNan firstRefusal entryRefusal over zeroBytes rested filterFor through firstOutput repliesTo replyTo advance callNumber typeFrom sinceFrom samplesIn snapshotFrom svfNext svfOut svfMixed naiveLow naiveHigh naiveNext naiveOut modifiedNext modifiedOut crossoverNext crossoverOut
 computed =
     record {
       dc-blocker = refl;
@@ -57,6 +57,9 @@ computed =
       converted-copy = refl;
       converted-short = refl;
       not-converted = refl;
+      count-replies = refl;
+      count-last = refl;
+      count-over = refl;
     }
 
 pub worked-examples-spec : {M : Type 1} → statement M

@@ -1,5 +1,6 @@
 use native.Mathlib.Omega.{arith}
-use Rattle.heads.proofs.Turns.{turns, count-accepted}
+use borrow.Author.Needs.{needs}
+use Rattle.heads.proofs.Counts.{over, under}
 use Rattle.heads.proofs.count.count_refusal.Statement.{statement}
 use Rattle.heads.proofs.count.count_refusal.Tie as tie
 
@@ -7,7 +8,7 @@ pub count-refusal-spec : {M : Type 1} → statement M
 count-refusal-spec =
     tie.close
     (tie.spec
-    (λ c. search turns)
-    (λ c. search turns)
-    (λ c. search turns)
-    (λ c. count-accepted (c .before .args .count) (c .before .args .n) (omega arith) (omega arith)))
+    (λ c. search needs)
+    (λ c. search needs)
+    (λ c. over (c .before .args .count) (c .before .args .n) (omega arith))
+    (λ c. under (c .before .args .count) (c .before .args .n) (omega arith) (omega arith)))
