@@ -1,7 +1,7 @@
 // Runs heads to the greatest count, 4,294,967,295 samples, and tries what they do there: a text of calls that came so far would have 69 GB.
 // One head goes by strides, which pass over most samples, the other by decimation, which filters every one of them.
 // Each line says what was called and over how many samples, the number that was answered, the head's count then, and of a run the first place
-// of the output, which is lent as 40e00000.
+// of the output, which is lent as 40e00000. The file `stdout` has what the source's Rust makes of the same calls (`tools/histories --limit`).
 
 ghost use Rattle.digits.specs.Place.{Counts};
 use filter_core::FilterMode;

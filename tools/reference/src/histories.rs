@@ -572,12 +572,9 @@ impl Writer {
     // One call or a few; how many lines.
     fn step_on(&mut self) -> u64 {
         let head = self.head();
-        match self
-            .numbers
-            .weighted(&[
-                330, 130, 100, 60, 60, 35, 50, 40, 20, 20, 20, 20, 20, 20, 40, 8,
-            ])
-        {
+        match self.numbers.weighted(&[
+            330, 130, 100, 60, 60, 35, 50, 40, 20, 20, 20, 20, 20, 20, 40, 8,
+        ]) {
             0 => self.run(head, 1),
             1 => self.run(head, 2),
             2 => self.load(head),
