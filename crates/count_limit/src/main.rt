@@ -1,7 +1,9 @@
 // Runs heads to the greatest count, 4,294,967,295 samples, and tries what they do there: a text of calls that came so far would have 69 GB.
 // One head goes by strides, which pass over most samples, the other by decimation, which filters every one of them.
 // Each line says what was called and over how many samples, the number that was answered, the head's count then, and of a run the first place
-// of the output, which is lent as 40e00000. The file `stdout` has what the source's Rust makes of the same calls (`tools/histories --limit`).
+// of each output, which is lent as 40e00000. Of the runs of every length with 100 samples left, two lines say how many of those that fit were
+// answered 0, and how many of the others 18.
+// The file `stdout` has what the source's Rust makes of the same calls (`tools/histories --limit`).
 
 ghost use Rattle.digits.specs.Place.{Counts};
 use filter_core::FilterMode;
@@ -140,12 +142,32 @@ fn say(name: &[u8], n: usize, number: u8, frame: Frame) -> Frame {
     counted.frame
 }
 
-fn say_output(name: &[u8], n: usize, number: u8, frame: Frame, output: f32) -> Frame {
+fn put_output(output: f32, text: &mut [u8], at: usize) -> usize {
+    let a = digits::put(b", output ", text, at);
+    digits::put_word(output, text, a)
+}
+
+fn say_one(name: &[u8], n: usize, number: u8, frame: Frame, output: f32) -> Frame {
     let counted = frame.count(HEAD);
     let mut text = [0u8; 120];
     let a = put_call(name, n, number, counted.count, &mut text);
-    let b = digits::put(b", output ", &mut text, a);
-    let at = digits::put_word(output, &mut text, b);
+    let at = put_output(output, &mut text, a);
+    print_line(&mut text, at);
+    counted.frame
+}
+
+fn say_two(n: usize, number: u8, frame: Frame, first: f32, second: f32) -> Frame {
+    let counted = frame.count(HEAD);
+    let mut text = [0u8; 120];
+    let a = put_call(
+        b"two outputs, samples ",
+        n,
+        number,
+        counted.count,
+        &mut text,
+    );
+    let b = put_output(first, &mut text, a);
+    let at = put_output(second, &mut text, b);
     print_line(&mut text, at);
     counted.frame
 }
@@ -179,7 +201,7 @@ fn run(
     let m = within(n, input);
     lend(output);
     let answer = frame.run(HEAD, form, &input[..m], output);
-    say_output(name, m, answer.number, answer.frame, first_of(output))
+    say_one(name, m, answer.number, answer.frame, first_of(output))
 }
 
 fn run_two(
@@ -192,13 +214,14 @@ fn run_two(
 ) -> Frame {
     let m = within(n, input);
     lend(first);
+    lend(second);
     let answer = frame.run_two(HEAD, form, &input[..m], first, second);
-    say_output(
-        b"two outputs, samples ",
+    say_two(
         m,
         answer.number,
         answer.frame,
         first_of(first),
+        first_of(second),
     )
 }
 
@@ -233,9 +256,10 @@ struct Tried {
     accepted: usize,
 }
 
+// No more runs than 201 are tried.
 fn one_more_if(on: bool, n: usize) -> usize {
     if on {
-        if n < 1000 { n + 1 } else { n }
+        if n < 201 { n + 1 } else { n }
     } else {
         n
     }
@@ -330,11 +354,11 @@ fn reach_again(
     run(b"stepped, samples ", back(a, 1), stepped, 1, input, first)
 }
 
-fn rest_and_load(full: Frame, entry: usize) -> Frame {
+fn rest_and_load(full: Frame, entry: usize) {
     let rested = full.rest(HEAD);
     let told = say(b"rest of head ", HEAD, rested.number, rested.frame);
     let loaded = told.load(HEAD, entry);
-    say(b"load of entry ", entry, loaded.number, loaded.frame)
+    say(b"load of entry ", entry, loaded.number, loaded.frame);
 }
 
 fn try_limit(
@@ -344,7 +368,7 @@ fn try_limit(
     input: &[f32; BLOCK],
     first: &mut [f32; BLOCK],
     second: &mut [f32; BLOCK],
-) -> Frame {
+) {
     let stepped = forms.stepped;
     let near = go_over(
         come_near(library, entry, forms, input, first),
@@ -354,5 +378,5 @@ fn try_limit(
         second,
     );
     let full = reach(near, stepped, input, first);
-    rest_and_load(reach_again(full, forms, input, first, second), entry)
+    rest_and_load(reach_again(full, forms, input, first, second), entry);
 }

@@ -4,3 +4,4 @@ pub mod Sound
 pub mod Picture
 pub mod Upholds
 pub mod Rows
+pub mod Counts

@@ -25,9 +25,9 @@ frameAfter f (c ∷ cs) = frameAfter (perform f c .frame) cs
 
 -- the calls cs on the frame f do what the histories H, grown by them, say
 pub record Upheld (f : Frame) (H : Histories) (cs : List Call) : Type 0 where
-  -- each call's number, each accepted mark's answer, and every output place
+  -- each call's number, each accepted mark's answer, each head's count where it is asked for (02 i), and every output place
   pub replies : repliesFrom f cs ≡ repliesTo H cs
-  -- each head holds the filter of its history
+  -- each head holds the filter and the count of its history
   pub heads : (h : ℕ) → h < 12 → headAt (frameAfter f cs) h .now ≡ snapshotOf (advanceAll H cs .heads h .history)
   -- and is empty exactly when its history is
   pub empty : (h : ℕ) → h < 12 → headAt (frameAfter f cs) h .now .slot ≡ Empty → advanceAll H cs .heads h .history ≡ []

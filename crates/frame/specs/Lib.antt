@@ -4,3 +4,4 @@ pub mod Refused
 pub mod History
 pub mod Rows
 pub mod Demand
+pub mod Counts

@@ -15,6 +15,7 @@ ghost use Rattle.frame.specs.Calls.{headAt, withHead, numbered, heldAnsw
 ghost use Rattle.frame.specs.Refused.{RefusedLeaves};
 ghost use Rattle.frame.specs.Rows.{NumbersByRows};
 ghost use Rattle.frame.specs.Demand.{Demand3};
+ghost use Rattle.frame.specs.Counts.{Counts};
 
 pub struct Frame {
     pub heads: [Head; 12],
@@ -132,7 +133,7 @@ impl Frame {
         answer_of(0, self)
     }
 
-    // Puts the filter of an entry into a head. The settings are copied; the head's marks stay.
+    // Puts the filter of an entry into a head, and its count to 0. The settings are copied; the head's marks stay.
     pub fn load(self, head: usize, entry: usize) -> Answer
         ensures { λ r. ⌜ plainly r ≡ perform self (loading head entry) ⌝ }
     {
@@ -154,7 +155,7 @@ impl Frame {
         )
     }
 
-    // Runs a form with one output.
+    // Runs a form with one output. The head's count goes up by the shortest length, whichever samples the form filters.
     pub fn run(self, head: usize, form: RunForm, input: &[f32], output: &mut [f32]) -> Answer
         ensures { λ r. ⌜ withOutput r (now (output .exit)) ≡ perform self (at head (run form (now (input .entry)) (now (output .entry)))) ⌝ }
     {
@@ -164,7 +165,7 @@ impl Frame {
         settle(self, head, held_at(self, head).run(form, input, output))
     }
 
-    // Runs a form with two outputs.
+    // Runs a form with two outputs, in which a sample counts once.
     pub fn run_two(
         self,
         head: usize,
@@ -185,7 +186,7 @@ impl Frame {
         )
     }
 
-    // Clears what a head's filter retains of past samples.
+    // Clears what a head's filter retains of past samples. Its count stays.
     pub fn rest(self, head: usize) -> Answer
         ensures { λ r. ⌜ acting r ≡ perform self (at head rest) ⌝ }
     {
@@ -225,7 +226,7 @@ impl Frame {
         settle_head(self, head, head_at(self, head).back(m))
     }
 
-    // Drops mark m and those above. The filter stays.
+    // Drops mark m and those above. What the head holds stays.
     pub fn drop(self, head: usize, m: usize) -> Answer
         ensures { λ r. ⌜ acting r ≡ perform self (at head (drop m)) ⌝ }
     {
@@ -300,4 +301,9 @@ pub fn numbers_by_rows()
 // Demand 3 of document 01: under every list of calls the frame does what the calls' histories say.
 pub fn history()
     ensures { λ _. ⌜ Demand3 ⌝ }
+{}
+
+// Asking for a count changes nothing, and no call takes one above what 32 bits hold.
+pub fn counts_fit()
+    ensures { λ _. ⌜ Counts ⌝ }
 {}

@@ -4,11 +4,10 @@ use crate::faults;
 use crate::samples::of_run;
 use crate::samples::of_two;
 use crate::text::put_bad_line;
-use crate::text::put_count;
+use crate::text::put_counted;
 use crate::text::put_head;
 use crate::text::put_keyword;
 use crate::text::put_long_line;
-use crate::text::put_mark;
 use crate::text::put_number;
 use crate::text::put_part;
 use crate::text::put_written;
@@ -76,7 +75,7 @@ fn plain(answer: Answer, out: &mut [u8], at: usize) -> Answered {
 fn mark(now: Answered, head: usize, out: &mut [u8]) -> Answered {
     let answer = now.frame.mark(head);
     let frame = answer.frame;
-    let at = put_mark(answer.number, answer.mark, out, now.at);
+    let at = put_counted(answer.number, answer.mark, out, now.at);
     Answered { frame, at }
 }
 
@@ -90,7 +89,7 @@ fn head(now: Answered, head: usize, out: &mut [u8]) -> Answered {
 fn count(now: Answered, head: usize, out: &mut [u8]) -> Answered {
     let answer = now.frame.count(head);
     let frame = answer.frame;
-    let at = put_count(answer.number, answer.count, out, now.at);
+    let at = put_counted(answer.number, answer.count as usize, out, now.at);
     Answered { frame, at }
 }
 

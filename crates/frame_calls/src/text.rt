@@ -64,15 +64,10 @@ pub(crate) fn put_number(refusal: u8, out: &mut [u8], at: usize) -> usize {
     ended(out, a)
 }
 
-pub(crate) fn put_mark(refusal: u8, mark: usize, out: &mut [u8], at: usize) -> usize {
+// An answer that has a number of its own behind that of the refusal: a mark's, or a count.
+pub(crate) fn put_counted(refusal: u8, n: usize, out: &mut [u8], at: usize) -> usize {
     let a = numbered(refusal, out, at);
-    let b = counted(refusal, mark, out, a);
-    ended(out, b)
-}
-
-pub(crate) fn put_count(refusal: u8, count: u32, out: &mut [u8], at: usize) -> usize {
-    let a = numbered(refusal, out, at);
-    let b = counted(refusal, count as usize, out, a);
+    let b = counted(refusal, n, out, a);
     ended(out, b)
 }
 

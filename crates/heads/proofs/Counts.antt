@@ -1,5 +1,5 @@
 -- The count of a history, event by event. Assumes nothing.
-use Prim.Native.Nat.{ℕ, _+_, _-_, _≤_, _<_}
+use Prim.Native.Nat.{ℕ, _+_, _≤_, _<_}
 use mathlib.Core.Path.{_≡_, refl, ap, sym, _∙_}
 use mathlib.Core.Bool.{Bool, true, false, cond}
 use mathlib.Core.List.{List, [], _∷_, _++_}
@@ -8,17 +8,17 @@ use borrow.Author.Tests.{lt-ltb, le-ltb, ltb-false, eqb-true, eqb-false}
 use lib.Dec.{ltb, eqb}
 use Rattle.heads.specs.Snapshot.{greatestCount, countRefusal, runNumber}
 use Rattle.heads.specs.History.{Event, loadEvent, runEvent, restEvent, sinceWith, sinceFrom, samplesIn, countOf, countWith, snapshotWith, snapshotFrom, snapshotOf}
+use Rattle.heads.specs.Counts.{CountsAreSums}
 use Rattle.heads.specs.declared.Snapshot.{Snapshot}
 
 -- ---- 18
 
--- as the code asks for it: by what is left
 module _ (k n : ℕ) where
-  pub over : greatestCount - k < n → 18 ≡ countRefusal k n
-  over l = rw (lt-ltb greatestCount (k + n) (omega arith)) refl
+  pub over : greatestCount < k + n → 18 ≡ countRefusal k n
+  over l = rw (lt-ltb _ _ l) refl
 
-  pub under : k ≤ greatestCount → n ≤ greatestCount - k → 0 ≡ countRefusal k n
-  under h l = rw (le-ltb greatestCount (k + n) (omega arith)) refl
+  pub within : k + n ≤ greatestCount → 0 ≡ countRefusal k n
+  within l = rw (le-ltb _ _ l) refl
 
 -- a run that the count does not refuse fits
 room : (k n : ℕ) → countRefusal k n ≡ 0 → k + n ≤ greatestCount
@@ -67,6 +67,6 @@ unfolding snapshotFrom sinceFrom
 counts s m [] e = e
 counts s m (i ∷ l) e = counts (snapshotWith s i) (sinceWith m i) l (ap (λ (n : ℕ). countWith n i) e ∙ sym (counted m i))
 
-pub count-is : (l : List Event) → snapshotOf l .count ≡ countOf l
+pub count-is : CountsAreSums
 unfolding samplesIn
 count-is l = counts _ [] l refl

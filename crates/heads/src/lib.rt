@@ -1,4 +1,4 @@
-// A head: empty or with one filter, and up to four marks to go back to.
+// A head: empty or with one filter and a count of the samples sewn since its load, and up to four marks to go back to.
 // Each call takes the head by value and hands it back in its answer. A refused call hands it back as it was.
 
 mod count;
@@ -95,14 +95,14 @@ fn no_mark(number: u8, head: Head) -> HeadMarked
 
 // The calls that change what a head holds and leave its marks.
 impl Snapshot {
-    // The filter of an entry. The settings are copied, so that a library opened later alters nothing here.
+    // The filter of an entry, and a count of 0. The settings are copied, so that a library opened later alters nothing here.
     pub fn loaded(entry: Entry) -> Snapshot
         ensures { λ r. ⌜ r ≡ loadedWith entry ⌝ }
     {
         holds(loads::filter_of(entry), 0)
     }
 
-    // Runs a form with one output.
+    // Runs a form with one output. All samples within the shortest length count.
     pub fn run(self, form: RunForm, input: &[f32], output: &mut [f32]) -> SnapshotAnswer
         ensures { λ r. ⌜ sewnWith r (now (output .exit)) ≡ runSewn self form (now (input .entry)) (now (output .entry)) ⌝ }
     {
@@ -120,7 +120,7 @@ impl Snapshot {
         snapshot_answer(0, holds(runs::run(filter, form, input, output), after))
     }
 
-    // Runs a form with two outputs.
+    // Runs a form with two outputs. A sample counts once.
     pub fn run_two(
         self,
         form: RunForm,
@@ -260,7 +260,7 @@ pub fn head_by_rows()
     ensures { λ _. ⌜ HeadByRows ⌝ }
 {}
 
-// A history's count is the sum of its samples since the last load, and no count of calls is above what 32 bits hold.
+// Every history's count is the sum of its samples since the last load.
 pub fn counts_are_sums()
     ensures { λ _. ⌜ CountsAreSums ⌝ }
 {}

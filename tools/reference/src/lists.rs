@@ -4,6 +4,11 @@ use crate::filters::{has_form, loaded, type_of, Filter, Form};
 use crate::sheets;
 use std::rc::Rc;
 
+/// Whether a head that has sewn so many samples can sew n more (02 i).
+pub fn counts(count: u64, n: usize) -> bool {
+    count + n as u64 <= u64::from(u32::MAX)
+}
+
 /// What an accepted call adds to a head's list.
 enum Item {
     Load {
@@ -239,17 +244,17 @@ impl Frame {
         }
         let shortest = outputs.iter().map(Vec::len).fold(input.len(), usize::min);
         let samples = &input[..shortest];
-        if head.list.count(replay) + shortest as u64 > u64::from(u32::MAX) {
+        if !counts(head.list.count(replay), shortest) {
             return 18;
         }
         let mut filter = head.list.filter(replay).unwrap();
-        let count = outputs.len();
+        let how_many = outputs.len();
         let mut places: Vec<&mut [f32]> =
             outputs.iter_mut().map(|out| &mut out[..shortest]).collect();
         filter.run(&form, samples, &mut places);
         let item = Item::Run {
             form,
-            outputs: count,
+            outputs: how_many,
             samples: samples.to_vec(),
         };
         head.list = head.list.with(item, filter);

@@ -13,7 +13,7 @@ const PROGRAM: &str = "target/bin/frame_calls";
 const REFERENCE: &str = "target/cargo/release/reference";
 const FOLDER: &str = "target/histories";
 
-/// The numbers of the refusals that there are, but for 18: no text brings a head to its last count. The program `count_limit` does.
+/// The numbers of the refusals that there are, but for 18: a text that brings a head there has 69 GB. The program `count_limit` runs to it.
 const REFUSALS: [u8; 13] = [1, 2, 3, 4, 5, 6, 7, 8, 9, 10, 11, 12, 15];
 
 /// How often each thing has to have been tried in a random run.

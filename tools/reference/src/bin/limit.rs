@@ -2,6 +2,7 @@
 //! has the same form as there. It takes every one of the 4,294,967,295 samples through the source's filter, where the form does.
 
 use reference::filters::{has_form, loaded, type_of, Filter, Form, Mode};
+use reference::lists::counts;
 
 const BLOCK: usize = 262_144;
 const LENT: f32 = 7.0;
@@ -39,7 +40,7 @@ impl Head {
         if let Form::Stride(_, 0) | Form::Decimate(_, 0) = form {
             return 10;
         }
-        if self.count + n as u64 > u64::from(u32::MAX) {
+        if !counts(self.count, n) {
             return 18;
         }
         let mut places: Vec<&mut [f32]> =
@@ -56,12 +57,13 @@ impl Head {
 
     fn told(&mut self, what: &str, form: Form, n: usize, outputs: usize) {
         self.outputs[0][0] = LENT;
+        self.outputs[1][0] = LENT;
         let number = self.run(form, n, outputs);
-        let output = self.outputs[0][0].to_bits();
-        println!(
-            "{what} {n}: {number}, count {}, output {output:08x}",
-            self.count
-        );
+        print!("{what} {n}: {number}, count {}", self.count);
+        for out in &self.outputs[..outputs] {
+            print!(", output {:08x}", out[0].to_bits());
+        }
+        println!();
     }
 
     fn mark(&mut self) {

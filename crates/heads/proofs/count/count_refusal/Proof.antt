@@ -1,6 +1,6 @@
 use native.Mathlib.Omega.{arith}
 use borrow.Author.Needs.{needs}
-use Rattle.heads.proofs.Counts.{over, under}
+use Rattle.heads.proofs.Counts.{over, within}
 use Rattle.heads.proofs.count.count_refusal.Statement.{statement}
 use Rattle.heads.proofs.count.count_refusal.Tie as tie
 
@@ -11,4 +11,4 @@ count-refusal-spec =
     (λ c. search needs)
     (λ c. search needs)
     (λ c. over (c .before .args .count) (c .before .args .n) (omega arith))
-    (λ c. under (c .before .args .count) (c .before .args .n) (omega arith) (omega arith)))
+    (λ c. within (c .before .args .count) (c .before .args .n) (omega arith)))
