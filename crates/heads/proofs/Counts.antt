@@ -14,11 +14,11 @@ use Rattle.heads.specs.declared.Snapshot.{Snapshot}
 -- ---- 18
 
 module _ (k n : ℕ) where
-  pub over : greatestCount < k + n → 18 ≡ countRefusal k n
-  over l = rw (lt-ltb _ _ l) refl
+  pub refused : greatestCount < k + n → 18 ≡ countRefusal k n
+  refused l = rw (lt-ltb _ _ l) refl
 
-  pub within : k + n ≤ greatestCount → 0 ≡ countRefusal k n
-  within l = rw (le-ltb _ _ l) refl
+  pub accepted : k + n ≤ greatestCount → 0 ≡ countRefusal k n
+  accepted l = rw (le-ltb _ _ l) refl
 
 -- a run that the count does not refuse fits
 room : (k n : ℕ) → countRefusal k n ≡ 0 → k + n ≤ greatestCount
@@ -28,7 +28,8 @@ room k n e = go (ltb greatestCount (k + n)) refl e
     go true q e = absurd (omega arith)
     go false q e = ltb-false greatestCount (k + n) q
 
--- a run that is accepted has its form, and fits; in whichever order the two are asked
+-- a run that is accepted has its form, and fits. This goes by no order of the two, as `then-zero` would, so that the rows alone refuse a wrong
+-- one
 pub run-zero : (o k n : ℕ) → runNumber o k n ≡ 0 → (o ≡ 0) × (k + n ≤ greatestCount)
 run-zero o k n h = go (eqb o 0) refl (eqb (countRefusal k n) 0) refl
   where

@@ -11,6 +11,7 @@ use lib.Ieee.{Float}
 use Rattle.filter_core.specs.Buffer.{within}
 use Rattle.filter_core.specs.Rows.{First, none, here, later}
 use Rattle.filter_core.proofs.Rows.{exactly, by-test, Step, step-if, step-to, first-last}
+use Rattle.any_filter.specs.declared.FilterType.{FilterType}
 use Rattle.runs.specs.Rows as rows
 use Rattle.runs.specs.declared.RunForm.{RunForm}
 use Rattle.runs.proofs.Rows.{by-rows}
@@ -53,39 +54,47 @@ module _ {x : HeadHistory} where
   held-mark : (x .history ≡ [] → ⊥) → ActCase x mark 6 → ⊥
   held-mark p (bare-mark e) = p e
 
-  -- ---- the forms and the steps, by the rows of a run
+  -- ---- a run's own cases, and those of the form and the step
 
   module _ {form : RunForm} {us ys : List Float} where
-    has-form : (rows.RunCase rows.Has (lastType (x .history)) form 9 → ⊥) → ActCase x (run form us ys) 9 → ⊥
-    has-form p (no-form m) = p (rows.no-form m)
+    run-case : (n : ℕ) → rows.RunCase rows.Has (lastType (x .history)) form n → ActCase x (run form us ys) n
+    run-case n (rows.no-form m) = no-form m
+    run-case n (rows.no-step z) = no-step z
 
-    has-step : (rows.RunCase rows.Has (lastType (x .history)) form 10 → ⊥) → ActCase x (run form us ys) 10 → ⊥
-    has-step p (no-step z) = p (rows.no-step z)
+    run-form : ActCase x (run form us ys) 9 → rows.RunCase rows.Has (lastType (x .history)) form 9
+    run-form (no-form m) = rows.no-form m
 
-    is-over : ActCase x (run form us ys) 18 → 4294967295 < countOf (x .history) + length (within us ys)
-    is-over (over-run l) = l
+    run-step : ActCase x (run form us ys) 10 → rows.RunCase rows.Has (lastType (x .history)) form 10
+    run-step (no-step z) = rows.no-step z
 
-    by-run : {n : ℕ} → First (rows.RunCase rows.Has (lastType (x .history)) form) (9 ∷ 10 ∷ []) n
-        → First (ActCase x (run form us ys)) (9 ∷ 10 ∷ 18 ∷ []) (runNumber n (countOf (x .history)) (length (within us ys)))
-    by-run (here (rows.no-form m)) = here (no-form m)
-    by-run (later p (here (rows.no-step z))) = later (has-form p) (here (no-step z))
-    by-run (later p (later q none)) = later (has-form p) (later (has-step q) (first-last (step-to over-run is-over (over-step _ _))))
+    run-over : ActCase x (run form us ys) 18 → 4294967295 < countOf (x .history) + length (within us ys)
+    run-over (over-run l) = l
 
   module _ {form : RunForm} {us ys zs : List Float} where
-    has-form-two : (rows.RunCase rows.HasTwo (lastType (x .history)) form 9 → ⊥) → ActCase x (runTwo form us ys zs) 9 → ⊥
-    has-form-two p (no-form-two m) = p (rows.no-form m)
+    two-case : (n : ℕ) → rows.RunCase rows.HasTwo (lastType (x .history)) form n → ActCase x (runTwo form us ys zs) n
+    two-case n (rows.no-form m) = no-form-two m
+    two-case n (rows.no-step z) = no-step-two z
 
-    has-step-two : (rows.RunCase rows.HasTwo (lastType (x .history)) form 10 → ⊥) → ActCase x (runTwo form us ys zs) 10 → ⊥
-    has-step-two p (no-step-two z) = p (rows.no-step z)
+    two-form : ActCase x (runTwo form us ys zs) 9 → rows.RunCase rows.HasTwo (lastType (x .history)) form 9
+    two-form (no-form-two m) = rows.no-form m
 
-    is-over-two : ActCase x (runTwo form us ys zs) 18 → 4294967295 < countOf (x .history) + length (within (within us ys) zs)
-    is-over-two (over-two l) = l
+    two-step : ActCase x (runTwo form us ys zs) 10 → rows.RunCase rows.HasTwo (lastType (x .history)) form 10
+    two-step (no-step-two z) = rows.no-step z
 
-    by-run-two : {n : ℕ} → First (rows.RunCase rows.HasTwo (lastType (x .history)) form) (9 ∷ 10 ∷ []) n
-        → First (ActCase x (runTwo form us ys zs)) (9 ∷ 10 ∷ 18 ∷ []) (runNumber n (countOf (x .history)) (length (within (within us ys) zs)))
-    by-run-two (here (rows.no-form m)) = here (no-form-two m)
-    by-run-two (later p (here (rows.no-step z))) = later (has-form-two p) (here (no-step-two z))
-    by-run-two (later p (later q none)) = later (has-form-two p) (later (has-step-two q) (first-last (step-to over-two is-over-two (over-step _ _))))
+    two-over : ActCase x (runTwo form us ys zs) 18 → 4294967295 < countOf (x .history) + length (within (within us ys) zs)
+    two-over (over-two l) = l
+
+-- the form and the step, then the count: once for both runs, where `case` has the cases of the call
+module _ {has : FilterType → RunForm → Type 0} {t : FilterType} {form : RunForm} {case : ℕ → Type 0} (k m : ℕ)
+    (to : (n : ℕ) → rows.RunCase has t form n → case n)
+    (of-form : case 9 → rows.RunCase has t form 9)
+    (of-step : case 10 → rows.RunCase has t form 10)
+    (over : 4294967295 < k + m → case 18)
+    (is-over : case 18 → 4294967295 < k + m) where
+  by-run : {n : ℕ} → First (rows.RunCase has t form) (9 ∷ 10 ∷ []) n → First case (9 ∷ 10 ∷ 18 ∷ []) (runNumber n k m)
+  by-run (here (rows.no-form p)) = here (to 9 (rows.no-form p))
+  by-run (later p (here (rows.no-step z))) = later (λ q. p (of-form q)) (here (to 10 (rows.no-step z)))
+  by-run (later p (later q none)) = later (λ r. p (of-form r)) (later (λ r. q (of-step r)) (first-last (step-to over is-over (over-step k m))))
 
 -- ---- each call at a head
 
@@ -94,8 +103,13 @@ module _ (x : HeadHistory) (S : SoundHead x) where
   four q = omega (arith, S .four, ltb-true 3 (length (x .checkpoints)) q)
 
   by-act : (a : Act) → First (ActCase x a) (numbersOf a) (actNumber x a)
-  by-act (run form us ys) = by-history (x .history) bare-run held-run (by-run (by-rows .one (lastType (x .history)) form .is))
-  by-act (runTwo form us ys zs) = by-history (x .history) bare-two held-two (by-run-two (by-rows .two (lastType (x .history)) form .is))
+  by-act (run form us ys) =
+      by-history (x .history) bare-run held-run
+      (by-run (countOf (x .history)) (length (within us ys)) run-case run-form run-step over-run run-over (by-rows .one (lastType (x .history)) form .is))
+  by-act (runTwo form us ys zs) =
+      by-history (x .history) bare-two held-two
+      (by-run (countOf (x .history)) (length (within (within us ys) zs)) two-case two-form two-step over-two two-over
+      (by-rows .two (lastType (x .history)) form .is))
   by-act rest = by-history (x .history) bare-rest held-rest none
   by-act mark =
       by-history (x .history) bare-mark held-mark (by-test (ltb 3 (length (x .checkpoints))) (λ q. full (four q)) (λ q. room (ltb-false _ _ q)) (λ q. none))

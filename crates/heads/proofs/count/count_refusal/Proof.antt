@@ -1,6 +1,6 @@
 use native.Mathlib.Omega.{arith}
 use borrow.Author.Needs.{needs}
-use Rattle.heads.proofs.Counts.{over, within}
+use Rattle.heads.proofs.Counts.{refused, accepted}
 use Rattle.heads.proofs.count.count_refusal.Statement.{statement}
 use Rattle.heads.proofs.count.count_refusal.Tie as tie
 
@@ -10,5 +10,5 @@ count-refusal-spec =
     (tie.spec
     (λ c. search needs)
     (λ c. search needs)
-    (λ c. over (c .before .args .count) (c .before .args .n) (omega arith))
-    (λ c. within (c .before .args .count) (c .before .args .n) (omega arith)))
+    (λ c. refused (c .before .args .count) (c .before .args .n) (omega arith))
+    (λ c. accepted (c .before .args .count) (c .before .args .n) (omega arith)))
