@@ -13,7 +13,7 @@ use one_pole::OnePole;
 use svf::Svf;
 
 // A filter of any of the six types, with the fields of its type in the order of their declaration.
-#[derive(Drop)]
+#[derive(Clone, Copy)]
 pub enum Filter {
     Dc {
         pole: f32,
@@ -58,7 +58,7 @@ pub enum Filter {
 }
 
 // In document 01's order of the six.
-#[derive(Drop)]
+#[derive(Clone, Copy)]
 pub enum FilterType {
     DcBlocker,
     OnePole,

@@ -6,7 +6,7 @@ ghost use Rattle.call_text.specs.Edition.{edition_word};
 use form_text::name_index;
 use sheets::Edition;
 
-#[derive(Drop)]
+#[derive(Clone, Copy)]
 pub(crate) enum ReadEdition {
     Edition(Edition),
     NoEdition,

@@ -38,7 +38,7 @@ pub const CONVERT: usize = 14;
 pub const COUNT: usize = 15;
 
 // What stands behind a keyword.
-#[derive(Drop)]
+#[derive(Clone, Copy)]
 pub(crate) enum Shape {
     Head,
     HeadNumber,

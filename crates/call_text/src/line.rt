@@ -13,7 +13,7 @@ use sheets::Edition;
 
 // What a line asks for, by what stands behind its keyword; the keyword's number comes first. A buffer or a sheet is the part of the line
 // that has its text: `digits::samples` and `digits::bytes` read it.
-#[derive(Drop)]
+#[derive(Clone, Copy)]
 pub enum Call {
     // An empty line or a comment: it gets no answer.
     Silent,

@@ -31,7 +31,7 @@ const END: usize = SAMPLES + 4 * COUNT;
 // Bytes of an answer: the time, the numbers and the outputs, a word each.
 const ANSWER: usize = 4 * (1 + 8 + COUNT);
 
-#[derive(Drop)]
+#[derive(Clone, Copy)]
 struct Task {
     library: Frame,
     filter: Svf,

@@ -29,7 +29,7 @@ const LAST: usize = BLOCK - 101;
 const HEAD: usize = 11;
 
 // The forms that a type has: one for the way to the limit, with a step, without one, of two outputs, with a step of 0; and one that it has not.
-#[derive(Drop)]
+#[derive(Clone, Copy)]
 struct Forms {
     way: RunForm,
     stepped: RunForm,
@@ -226,7 +226,7 @@ fn blocks(start: Frame, form: RunForm, input: &[f32], output: &mut [f32]) -> Fra
 
 // Of the runs of 0 to 200 samples, each from a mark that has 100 left: how many of the longer ones were refused with 18, and how many of
 // the others accepted.
-#[derive(Drop)]
+#[derive(Clone, Copy)]
 struct Tried {
     frame: Frame,
     refused: usize,

@@ -8,7 +8,7 @@ use filter_core::FilterMode;
 use modified_svf::ModifiedSvf;
 
 // The members of x, lp and bp are those of the first and of the second pass.
-#[derive(Drop)]
+#[derive(Clone, Copy)]
 pub struct CrossoverSvf {
     pub f: f32,
     pub fq: f32,
@@ -18,7 +18,7 @@ pub struct CrossoverSvf {
 }
 
 // A filter after a sample, and what it puts out.
-#[derive(Drop)]
+#[derive(Clone, Copy)]
 pub struct CrossoverSvfOut {
     pub filter: CrossoverSvf,
     pub out: f32,

@@ -4,7 +4,7 @@ ghost use Rattle.std.specs.Prelude.{◌≡◌};
 ghost use Rattle.filter_core.specs.Buffer.{Filtered, each, puts};
 ghost use Rattle.dc_blocker.specs.DcBlocker.{dc_new, dc_init, dc_next, dc_out};
 
-#[derive(Drop)]
+#[derive(Clone, Copy)]
 pub struct DcBlocker {
     pub pole: f32,
     pub x: f32,

@@ -7,7 +7,7 @@ ghost use Rattle.filter_core.specs.Rows.{◌then◌, RefusalsByRows};
 ghost use Rattle.filter_core.specs.Refusal.{step_refusal, frequency_refusal};
 ghost use Rattle.filter_core.specs.Series.{horner};
 
-#[derive(Drop)]
+#[derive(Clone, Copy)]
 pub enum FilterMode {
     LowPass,
     BandPass,
@@ -16,7 +16,7 @@ pub enum FilterMode {
 }
 
 // The source's four, and approximation 4 of request a in document 02.
-#[derive(Drop)]
+#[derive(Clone, Copy)]
 pub enum FrequencyApproximation {
     Exact,
     Accurate,

@@ -7,7 +7,7 @@ use filter_exports::{
 };
 
 // What a call takes besides its filter and its buffers.
-#[derive(Drop)]
+#[derive(Clone, Copy)]
 pub(crate) struct Settings {
     pub a: u32,
     pub b: u32,
@@ -18,7 +18,7 @@ pub(crate) struct Settings {
 }
 
 // How much of each buffer is lent.
-#[derive(Drop)]
+#[derive(Clone, Copy)]
 pub(crate) struct Lengths {
     pub input: usize,
     pub out_1: usize,

@@ -67,7 +67,7 @@ fn agrees(w: &[u32; 68]) -> bool {
 }
 
 // What the next block is: a record of a method, or the end.
-#[derive(Drop)]
+#[derive(Clone, Copy)]
 enum Found {
     Agrees(u32),
     Differs(u32),
@@ -89,7 +89,7 @@ fn next_record() -> Found {
 }
 
 // The records that agree, by type, and those that differ.
-#[derive(Drop)]
+#[derive(Clone, Copy)]
 struct Counts {
     dc_blocker: u64,
     one_pole: u64,

@@ -9,19 +9,19 @@ use digits::Number;
 use filter_core::FilterMode;
 use runs::RunForm;
 
-#[derive(Drop)]
+#[derive(Clone, Copy)]
 enum ReadMode {
     Mode(FilterMode),
     NoMode,
 }
 
-#[derive(Drop)]
+#[derive(Clone, Copy)]
 enum ReadValue {
     Value(f32),
     NoValue,
 }
 
-#[derive(Drop)]
+#[derive(Clone, Copy)]
 pub enum ReadForm {
     Form(RunForm),
     NoForm,

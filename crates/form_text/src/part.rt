@@ -4,14 +4,14 @@ ghost use Rattle.std.specs.Prelude.{◌≡◌, cond, ◌≤◌, length};
 ghost use Rattle.form_text.specs.Part.{part_end, part_at, part_count, parts_of, text_of};
 
 // A part of a text, from the place `at` up to `end`. The part behind the last one begins past the text's end, and is empty.
-#[derive(Drop)]
+#[derive(Clone, Copy)]
 pub struct Part {
     pub at: usize,
     pub end: usize,
 }
 
 // How many parts there are, and the first six.
-#[derive(Drop)]
+#[derive(Clone, Copy)]
 pub struct Parts {
     pub count: usize,
     pub a: Part,

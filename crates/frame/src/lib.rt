@@ -14,21 +14,21 @@ use heads::{Head, HeadAnswer, Snapshot, SnapshotAnswer};
 use library::Library;
 use runs::RunForm;
 
-#[derive(Drop)]
+#[derive(Clone, Copy)]
 pub struct Frame {
     pub heads: [Head; 12],
     pub library: Library,
 }
 
 // The number is 0, or that of the refusal.
-#[derive(Drop)]
+#[derive(Clone, Copy)]
 pub struct Answer {
     pub number: u8,
     pub frame: Frame,
 }
 
 // The number of the mark, which is 0 where the call is refused.
-#[derive(Drop)]
+#[derive(Clone, Copy)]
 pub struct Marked {
     pub number: u8,
     pub mark: usize,
@@ -36,7 +36,7 @@ pub struct Marked {
 }
 
 // How many samples the head has sewn since its load, which is 0 where the call is refused.
-#[derive(Drop)]
+#[derive(Clone, Copy)]
 pub struct Counted {
     pub number: u8,
     pub count: u32,
@@ -44,14 +44,14 @@ pub struct Counted {
 }
 
 // How many bytes were written, which is 0 where the call is refused.
-#[derive(Drop)]
+#[derive(Clone, Copy)]
 pub struct Wrote {
     pub number: u8,
     pub length: usize,
     pub frame: Frame,
 }
 
-#[derive(Drop)]
+#[derive(Clone, Copy)]
 pub struct Shown {
     pub number: u8,
     pub head: Head,

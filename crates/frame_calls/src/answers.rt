@@ -47,7 +47,7 @@ fn shape_of(call: Call) -> usize {
 }
 
 // The frame after a line, and the place behind its answer in the output.
-#[derive(Drop)]
+#[derive(Clone, Copy)]
 pub(crate) struct Answered {
     pub(crate) frame: Frame,
     pub(crate) at: usize,

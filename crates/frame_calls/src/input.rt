@@ -11,7 +11,7 @@ const LONGEST: usize = 65535;
 
 // What goes from one read to the next: the frame, how many lines there were, how many bytes of an unfinished line stand at the start of the
 // buffer, and whether the rest of a long line is still to be passed over.
-#[derive(Drop)]
+#[derive(Clone, Copy)]
 struct State {
     frame: Frame,
     lines: usize,
@@ -20,14 +20,14 @@ struct State {
     going: bool,
 }
 
-#[derive(Drop)]
+#[derive(Clone, Copy)]
 struct Start {
     from: usize,
     skipping: bool,
 }
 
 // How far the lines of a text were answered.
-#[derive(Drop)]
+#[derive(Clone, Copy)]
 struct Taken {
     frame: Frame,
     lines: usize,
@@ -37,7 +37,7 @@ struct Taken {
 }
 
 // How many bytes there are after a read.
-#[derive(Drop)]
+#[derive(Clone, Copy)]
 struct Filled {
     end: usize,
     failed: bool,

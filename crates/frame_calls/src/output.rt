@@ -6,7 +6,7 @@ use libc::STDOUT_FILENO;
 const ENOUGH: usize = 8192;
 
 // The place behind the answers that wait, and whether the output takes more.
-#[derive(Drop)]
+#[derive(Clone, Copy)]
 pub(crate) struct Sent {
     pub(crate) at: usize,
     pub(crate) going: bool,

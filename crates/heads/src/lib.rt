@@ -19,21 +19,21 @@ use marks::{empty_snapshot, marks_below};
 use runs::RunForm;
 use sheets::Entry;
 
-#[derive(Drop)]
+#[derive(Clone, Copy)]
 pub enum Slot {
     Empty,
     Holds(Filter),
 }
 
 // What a mark keeps of a head, and what the head itself holds. The count is that of the samples sewn since the load, 0 while empty.
-#[derive(Drop)]
+#[derive(Clone, Copy)]
 pub struct Snapshot {
     pub slot: Slot,
     pub count: u32,
 }
 
 // The places of `marks` from `marked` on are empty, so that a head is one value.
-#[derive(Drop)]
+#[derive(Clone, Copy)]
 pub struct Head {
     pub now: Snapshot,
     pub marks: [Snapshot; 4],
@@ -41,20 +41,20 @@ pub struct Head {
 }
 
 // The number is 0, or that of the refusal.
-#[derive(Drop)]
+#[derive(Clone, Copy)]
 pub struct SnapshotAnswer {
     pub number: u8,
     pub now: Snapshot,
 }
 
-#[derive(Drop)]
+#[derive(Clone, Copy)]
 pub struct HeadAnswer {
     pub number: u8,
     pub head: Head,
 }
 
 // The number of the mark, which is 0 where the call is refused.
-#[derive(Drop)]
+#[derive(Clone, Copy)]
 pub struct HeadMarked {
     pub number: u8,
     pub mark: usize,

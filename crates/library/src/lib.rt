@@ -10,7 +10,7 @@ ghost use Rattle.library.specs.RoundTrip.{ReadWrite, WriteRead, RefusedWrite, On
 use sheets::{Edition, Entry};
 
 // The places of `kinds` and `settings` past the n entries are zeros, so a library is one value.
-#[derive(Drop)]
+#[derive(Clone, Copy)]
 pub struct Library {
     pub n: usize,
     pub edition: Edition,
@@ -18,13 +18,13 @@ pub struct Library {
     pub settings: [u8; 768],
 }
 
-#[derive(Drop)]
+#[derive(Clone, Copy)]
 pub struct Reading {
     pub number: u8,
     pub library: Library,
 }
 
-#[derive(Drop)]
+#[derive(Clone, Copy)]
 pub struct Written {
     pub number: u8,
     pub length: usize,

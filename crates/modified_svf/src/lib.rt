@@ -6,7 +6,7 @@ ghost use Rattle.modified_svf.specs.ModifiedSvf.{modified_new, modified_init, mo
 
 use filter_core::FilterMode;
 
-#[derive(Drop)]
+#[derive(Clone, Copy)]
 pub struct ModifiedSvf {
     pub f: f32,
     pub fq: f32,
@@ -16,7 +16,7 @@ pub struct ModifiedSvf {
 }
 
 // A filter after a sample, and what it puts out.
-#[derive(Drop)]
+#[derive(Clone, Copy)]
 pub struct ModifiedSvfOut {
     pub filter: ModifiedSvf,
     pub out: f32,

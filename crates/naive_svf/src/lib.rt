@@ -9,7 +9,7 @@ ghost use Rattle.naive_svf.specs.NaiveSvf.{naive_normalized, naive_low, naive_ba
 
 use filter_core::{FilterMode, FrequencyApproximation};
 
-#[derive(Drop)]
+#[derive(Clone, Copy)]
 pub struct NaiveSvf {
     pub f: f32,
     pub damp: f32,
@@ -18,21 +18,21 @@ pub struct NaiveSvf {
 }
 
 // A filter after a sample, and what it puts out.
-#[derive(Drop)]
+#[derive(Clone, Copy)]
 pub struct NaiveSvfOut {
     pub filter: NaiveSvf,
     pub out: f32,
 }
 
 // What a call that can be refused answers: 0 and the filter after it, or the refusal's number and the filter as it was.
-#[derive(Drop)]
+#[derive(Clone, Copy)]
 pub struct NaiveSvfAnswer {
     pub number: u8,
     pub filter: NaiveSvf,
 }
 
 // A filter after a sample, with the two taps that it does not keep.
-#[derive(Drop)]
+#[derive(Clone, Copy)]
 struct Taps {
     filter: NaiveSvf,
     normalized: f32,

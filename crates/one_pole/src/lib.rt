@@ -8,7 +8,7 @@ ghost use Rattle.one_pole.specs.OnePole.{one_pole_new, one_pole_init, one_pole_r
 
 use filter_core::{FilterMode, FrequencyApproximation};
 
-#[derive(Drop)]
+#[derive(Clone, Copy)]
 pub struct OnePole {
     pub g: f32,
     pub gi: f32,
@@ -16,21 +16,21 @@ pub struct OnePole {
 }
 
 // A filter after a sample, and what it puts out.
-#[derive(Drop)]
+#[derive(Clone, Copy)]
 pub struct OnePoleOut {
     pub filter: OnePole,
     pub out: f32,
 }
 
 // What a call that can be refused answers: 0 and the filter after it, or the refusal's number and the filter as it was.
-#[derive(Drop)]
+#[derive(Clone, Copy)]
 pub struct OnePoleAnswer {
     pub number: u8,
     pub filter: OnePole,
 }
 
 // A tangent, or the refusal's number and 0.0.
-#[derive(Drop)]
+#[derive(Clone, Copy)]
 pub struct Tangent {
     pub number: u8,
     pub value: f32,

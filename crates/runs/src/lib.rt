@@ -14,7 +14,7 @@ pub use one::run;
 pub use two::run_two;
 
 // The last three have two outputs.
-#[derive(Drop)]
+#[derive(Clone, Copy)]
 pub enum RunForm {
     Plain(FilterMode),
     Gain(FilterMode, f32),

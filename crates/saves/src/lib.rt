@@ -11,7 +11,7 @@ ghost use Rattle.saves.specs.Parts.{Parts};
 use library::Library;
 
 // The sheet's bytes, with zeros behind; how many it has, and how many of them were taken. The longest sheet has 834.
-#[derive(Drop)]
+#[derive(Clone, Copy)]
 pub struct Save {
     pub bytes: [u8; 834],
     pub length: usize,
@@ -19,14 +19,14 @@ pub struct Save {
 }
 
 // The number is 0, or that of the refusal.
-#[derive(Drop)]
+#[derive(Clone, Copy)]
 pub struct Begun {
     pub number: u8,
     pub save: Save,
 }
 
 // How many bytes were written, which is 0 where the call is refused.
-#[derive(Drop)]
+#[derive(Clone, Copy)]
 pub struct Taken {
     pub number: u8,
     pub length: usize,

@@ -3,7 +3,7 @@
 ghost use Rattle.std.specs.Prelude.{◌≡◌};
 ghost use Rattle.sheets.specs.Edition.{edition_byte, edition_of, edition_refusal};
 
-#[derive(Drop)]
+#[derive(Clone, Copy)]
 pub enum Edition {
     One,
     Two,

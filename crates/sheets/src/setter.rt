@@ -10,7 +10,7 @@ ghost use Rattle.sheets.specs.declared.setter.Setter.TheVariants.{Unknown};
 use crate::edition::Edition;
 use filter_core::FrequencyApproximation;
 
-#[derive(Drop)]
+#[derive(Clone, Copy)]
 pub enum Setter {
     DcBlocker,
     OnePole(FrequencyApproximation),

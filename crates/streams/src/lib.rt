@@ -8,7 +8,7 @@ use libc::types::timespec;
 use libc::{EAGAIN, EINTR};
 
 // What a read came to: how many bytes stand at the start of the buffer, none at the end of the input and where it failed.
-#[derive(Drop)]
+#[derive(Clone, Copy)]
 pub struct Got {
     pub count: usize,
     pub failed: bool,

@@ -10,7 +10,7 @@ ghost use Rattle.svf.specs.Svf.{svf_mixed, svf_multimode};
 use filter_core::{FilterMode, FrequencyApproximation};
 use one_pole::OnePole;
 
-#[derive(Drop)]
+#[derive(Clone, Copy)]
 pub struct Svf {
     pub g: f32,
     pub r: f32,
@@ -20,21 +20,21 @@ pub struct Svf {
 }
 
 // A filter after a sample, and what it puts out.
-#[derive(Drop)]
+#[derive(Clone, Copy)]
 pub struct SvfOut {
     pub filter: Svf,
     pub out: f32,
 }
 
 // What a call that can be refused answers: 0 and the filter after it, or the refusal's number and the filter as it was.
-#[derive(Drop)]
+#[derive(Clone, Copy)]
 pub struct SvfAnswer {
     pub number: u8,
     pub filter: Svf,
 }
 
 // A filter after a sample, and its three taps.
-#[derive(Drop)]
+#[derive(Clone, Copy)]
 struct Taps {
     filter: Svf,
     high: f32,

@@ -5,5 +5,5 @@ pub high_gain_spec : {M : Type 1} → statement M
 high_gain_spec =
     tie.close
     (tie.spec
-    (λ c. rw c.if1.true)
-    (λ c. rw c.if1.false))
+    (λ c. rw c.if-mode.true)
+    (λ c. rw c.if-mode.false))

@@ -5,5 +5,5 @@ pub low_gain_spec : {M : Type 1} → statement M
 low_gain_spec =
     tie.close
     (tie.spec
-    (λ c. rw c.if1.true)
-    (λ c. rw c.if1.false))
+    (λ c. rw c.if-mode.true)
+    (λ c. rw c.if-mode.false))

@@ -7,9 +7,9 @@ use Rattle.words.proofs.Words.{not_nan}
 use Rattle.words.proofs.f32_to_word.Statement.{statement}
 use Rattle.words.proofs.f32_to_word.Tie as tie
 
-returns : tie.Need-returns
+returns : tie.Need-returns-then-x
 unfolding to_bits
-returns c = rw (differs_from_itself c.before.args.x (subst T (sym c.if1.true) tt)) refl
+returns c = rw (differs_from_itself c.before.args.x (subst T (sym c.if-x.true) tt)) refl
 
 pub f32_to_word_spec : {M : Type 1} → statement M
-f32_to_word_spec = tie.close (tie.spec returns (λ c. not_nan c.before.args.x c.if1.false) (λ c. search rules))
+f32_to_word_spec = tie.close (tie.spec returns (λ c. not_nan c.before.args.x c.if-x.false) (λ c. search rules))

@@ -3,11 +3,11 @@ use borrow.Author.Rules.{rules}
 use Rattle.digits.proofs.output.glyph.Statement.{statement}
 use Rattle.digits.proofs.output.glyph.Tie as tie
 
-returns : tie.Need-returns
-returns c = rw (lt-ltb _ _ c.if1.true)
+returns : tie.Need-returns-then-d-lt10
+returns c = rw (lt-ltb _ _ c.if-d-lt10.true)
 
-returns-2 : tie.Need-returns-2
-returns-2 c = rw (le-ltb _ _ c.if1.false)
+returns-2 : tie.Need-returns-else-d-lt10
+returns-2 c = rw (le-ltb _ _ c.if-d-lt10.false)
 
 pub glyph_spec : {M : Type 1} → statement M
 glyph_spec =

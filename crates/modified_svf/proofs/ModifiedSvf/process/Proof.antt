@@ -6,10 +6,10 @@ use Rattle.modified_svf.specs.ModifiedSvf.{modified_next, modified_out}
 use Rattle.modified_svf.proofs.ModifiedSvf.process.Statement.{statement}
 use Rattle.modified_svf.proofs.ModifiedSvf.process.Tie as tie
 
-abbrev invariant-loop : tie.invariant-loop
+abbrev invariant-loop : tie.invariant-loop-i
 invariant-loop in- out₀ mode n f₀ i₀ out f i = Going (each (modified_next mode)) (puts (modified_out mode)) in- n f₀ out₀ i f out
 
-abbrev decreases-loop : tie.decreases-loop
+abbrev decreases-loop : tie.decreases-loop-i
 decreases-loop in- out₀ mode n f₀ i₀ out f i = n - i
 
 pub process_spec : {M : Type 1} → statement M

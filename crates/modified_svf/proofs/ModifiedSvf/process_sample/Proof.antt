@@ -5,7 +5,7 @@ use Rattle.modified_svf.proofs.ModifiedSvf.process_sample.Tie as tie
 
 returns : tie.Need-returns
 unfolding modified_next modified_out
-returns c = (rw c.before.by_mode.ensures, rw (c.by-mode2.ensures, c.before.by_mode.ensures))
+returns c = (rw c.before.by_mode-bp.ensures, rw (c.by_mode-out.ensures, c.before.by_mode-bp.ensures))
 
 pub process_sample_spec : {M : Type 1} → statement M
 process_sample_spec =

@@ -5,10 +5,10 @@ use Rattle.naive_svf.specs.NaiveSvf.{naive_next, naive_out}
 use Rattle.naive_svf.proofs.NaiveSvf.decimate_buffer.Statement.{statement}
 use Rattle.naive_svf.proofs.NaiveSvf.decimate_buffer.Tie as tie
 
-abbrev invariant-loop : tie.invariant-loop
+abbrev invariant-loop : tie.invariant-loop-i
 invariant-loop in- out₀ decimate mode n f₀ i₀ left₀ out f i left = Counting decimate naive_next (naive_out mode) in- n f₀ out₀ i left f out
 
-abbrev decreases-loop : tie.decreases-loop
+abbrev decreases-loop : tie.decreases-loop-i
 decreases-loop in- out₀ decimate mode n f₀ i₀ left₀ out f i left = n - i
 
 pub decimate_buffer_spec : {M : Type 1} → statement M

@@ -7,4 +7,4 @@ linear_frequency_spec =
     tie.close
     (tie.spec
     (λ c κs. search rules)
-    (λ c. rw c.clip-at.ensures))
+    (λ c. rw c.clip_at.ensures))

@@ -6,7 +6,7 @@ use Rattle.naive_svf.proofs.NaiveSvf.process.Tie as tie
 returns : tie.Need-returns
 unfolding naive_out
 returns c =
-    let t = c.before.before.taps.ensures in (t.0, rw (c.by_mode.ensures, t.1, t.2, t.3, t.4))
+    let t = c.before.before.taps-t.ensures in (t.0, rw (c.by_mode.ensures, t.1, t.2, t.3, t.4))
 
 pub process_spec : {M : Type 1} → statement M
 process_spec =

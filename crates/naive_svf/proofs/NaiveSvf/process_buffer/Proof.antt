@@ -6,10 +6,10 @@ use Rattle.naive_svf.specs.NaiveSvf.{naive_next, naive_out}
 use Rattle.naive_svf.proofs.NaiveSvf.process_buffer.Statement.{statement}
 use Rattle.naive_svf.proofs.NaiveSvf.process_buffer.Tie as tie
 
-abbrev invariant-loop : tie.invariant-loop
+abbrev invariant-loop : tie.invariant-loop-i
 invariant-loop in- out₀ mode n f₀ i₀ out f i = Going (each naive_next) (puts (naive_out mode)) in- n f₀ out₀ i f out
 
-abbrev decreases-loop : tie.decreases-loop
+abbrev decreases-loop : tie.decreases-loop-i
 decreases-loop in- out₀ mode n f₀ i₀ out f i = n - i
 
 pub process_buffer_spec : {M : Type 1} → statement M

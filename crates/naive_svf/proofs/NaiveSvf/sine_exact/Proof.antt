@@ -8,4 +8,4 @@ sine_exact_spec =
     (tie.spec
     (λ c κs. search rules)
     (λ c κs. search rules)
-    (λ c. rw (c.sine-series.ensures, c.before.clip-at.ensures)))
+    (λ c. rw (c.sine_series.ensures, c.before.clip_at.ensures)))

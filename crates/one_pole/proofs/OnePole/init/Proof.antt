@@ -8,4 +8,4 @@ init_spec =
     (tie.spec
     (λ c κs. search rules)
     (λ c κs. search rules)
-    (λ c. rw (c.reset.ensures, c.before.before.set-f.ensures.1)))
+    (λ c. rw (c.reset.ensures, c.before.before.set_f-set.ensures.1)))

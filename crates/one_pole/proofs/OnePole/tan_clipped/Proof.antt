@@ -9,5 +9,5 @@ tan_clipped_spec =
     (tie.spec
     (λ c κs. search rules)
     (λ c κs. search rules)
-    (λ c. first_of _ _ _ _ c.before.if1.true c.tan-series.ensures)
-    (λ c. second_of _ _ _ _ c.before.if1.false (rw c.tan-series2.ensures)))
+    (λ c. first_of _ _ _ _ c.before.if-f.true c.tan_series.ensures)
+    (λ c. second_of _ _ _ _ c.before.if-f.false (rw c.tan_series-else-f.ensures)))

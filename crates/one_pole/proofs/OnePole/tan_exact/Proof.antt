@@ -8,5 +8,5 @@ tan_exact_spec =
     (tie.spec
     (λ c κs. search rules)
     (λ c κs. search rules)
-    (λ c. rw (c.before.if1.true, c.tan-clipped.ensures))
-    (λ c. rw (c.before.if1.false, c.tan-clipped2.ensures)))
+    (λ c. rw (c.before.if-f.true, c.tan_clipped.ensures))
+    (λ c. rw (c.before.if-f.false, c.tan_clipped-else-f.ensures)))

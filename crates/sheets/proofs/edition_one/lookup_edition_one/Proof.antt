@@ -8,5 +8,5 @@ lookup_edition_one_spec =
     (tie.spec
     (λ c κs. search lookups)
     (λ c κs. search lookups)
-    (λ c κs z. found_one _ _ c.before.check-entry-edition-one.ensures c.entries.ensures z)
+    (λ c κs z. found_one _ _ c.before.check_entry_edition_one.ensures c.entries.ensures z)
     (λ c. cc))

@@ -6,10 +6,10 @@ use Rattle.sheets.proofs.Checks.{steps}
 use Rattle.sheets.proofs.refusal.entries_refusal.Statement.{statement}
 use Rattle.sheets.proofs.refusal.entries_refusal.Tie as tie
 
-abbrev invariant-loop : tie.invariant-loop
+abbrev invariant-loop : tie.invariant-loop-e
 invariant-loop v n sheet e₀ e = (e ≤ n) × (first_refusal e (refusal_at v n sheet) ≡ 0)
 
-abbrev decreases-loop : tie.decreases-loop
+abbrev decreases-loop : tie.decreases-loop-e
 decreases-loop v n sheet e₀ e = n - e
 
 pub entries_refusal_spec : {M : Type 1} → statement M

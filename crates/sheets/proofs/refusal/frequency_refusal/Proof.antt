@@ -8,4 +8,4 @@ frequency_refusal_spec =
     (tie.spec
     (λ c κs. search rules)
     (λ c κs. search rules)
-    (λ c. rw (c.frequency-refusal.ensures, c.before.word-to-f32.ensures)))
+    (λ c. rw (c.frequency_refusal.ensures, c.before.word_to_f32.ensures)))

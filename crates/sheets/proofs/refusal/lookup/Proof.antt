@@ -8,5 +8,5 @@ lookup_spec =
     (tie.spec
     (λ c κs. search lookups)
     (λ c κs. search lookups)
-    (λ c κs z. found _ _ c.before.check-entry.ensures c.entries.ensures z)
+    (λ c κs z. found _ _ c.before.check_entry.ensures c.entries.ensures z)
     (λ c. cc))

@@ -10,5 +10,5 @@ part_for_spec =
     (λ c. search lookups)
     (λ c. search lookups)
     (λ c. search lookups)
-    (λ c κs. c.before.before.requires c.if1.false)
+    (λ c κs. c.before.before.requires c.if-number-ne0.false)
     (λ c. search lookups))
