@@ -123,6 +123,6 @@ module _ (s : List ℕ) where
       let w : i ≡ length s = omega (arith, c.inside) in
       let e : firsts is_digit s (length s) ≡ true = rw w at c.digits in
       let u : v ≡ value_to s (length s) = rw w at c.is in
-      rw (le-ltb (length s) 1 h, le-ltb 20 (length s) l, e, le-ltb 18446744073709551615 (value_to s (length s)) (rw (← u) c.ranges), u) refl
+      rw (le-ltb (length s) 1 h, le-ltb 20 (length s) l, e, le-ltb 18446744073709551615 (value_to s (length s)) (rw (← u) c.fits), u) refl
 
 pub ruleset reading = (hex_none, hex_more, hex_fail, hex_done, byte_is, counted_none, counted_more, number_short, number_long, number_other, number_large, number_read, rules)

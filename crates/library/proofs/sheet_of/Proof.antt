@@ -4,10 +4,10 @@ use Rattle.library.proofs.Writings.{writings}
 use Rattle.library.proofs.sheet_of.Statement.{statement}
 use Rattle.library.proofs.sheet_of.Tie as tie
 
-returns : tie.Need-returns
+returns : tie.Need-returns-then-n-gt64
 returns c = λ h. absurd (omega arith)
 
-returns-2 : tie.Need-returns-2
+returns-2 : tie.Need-returns
 unfolding zero_bytes
 returns-2 c = λ h. search writings
 

@@ -8,10 +8,10 @@ use Rattle.digits.proofs.Reading.{reading}
 use Rattle.digits.proofs.hex.all_hex.Statement.{statement}
 use Rattle.digits.proofs.hex.all_hex.Tie as tie
 
-abbrev invariant-loop : tie.invariant-loop
+abbrev invariant-loop : tie.invariant-loop-i
 invariant-loop s i₀ i = (i ≤ length s) × (firsts is_hex s i ≡ true)
 
-abbrev decreases-loop : tie.decreases-loop
+abbrev decreases-loop : tie.decreases-loop-i
 decreases-loop s i₀ i = length s - i
 
 pub all_hex_spec : {M : Type 1} → statement M

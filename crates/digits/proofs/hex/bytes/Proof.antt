@@ -5,10 +5,10 @@ use Rattle.digits.proofs.Putting.{putting}
 use Rattle.digits.proofs.hex.bytes.Statement.{statement}
 use Rattle.digits.proofs.hex.bytes.Tie as tie
 
-abbrev invariant-loop : tie.invariant-loop
+abbrev invariant-loop : tie.invariant-loop-i
 invariant-loop s out₀ n i₀ out i = Copied 0 (bytes_of s) out₀ n i out
 
-abbrev decreases-loop : tie.decreases-loop
+abbrev decreases-loop : tie.decreases-loop-i
 decreases-loop s out₀ n i₀ out i = n - i
 
 pub bytes_spec : {M : Type 1} → statement M

@@ -26,4 +26,4 @@ last_for_kind_spec =
     (λ c.
     let b = c.before in
     let d = b.before.before.before in
-    (kinds_2_3_5 d.args.edition _ c.last_approximation.ensures.0 d.args.kind (omega (arith, b.before.before.if-kind-lt2.false)) (λ e. omega (arith, e, b.before.if-kind-eq4.false)) (omega (arith, b.if3.false)), search rules)))
+    (kinds_2_3_5 d.args.edition _ c.last_approximation.ensures.0 d.args.kind (omega (arith, b.before.before.if-kind-lt2.false)) (λ e. omega (arith, e, b.before.if-kind-eq4.false)) (omega (arith, b.if-kind-gt5.false)), search rules)))

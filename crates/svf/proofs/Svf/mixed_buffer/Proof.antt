@@ -6,10 +6,10 @@ use Rattle.svf.specs.Svf.{svf_next, svf_mixed}
 use Rattle.svf.proofs.Svf.mixed_buffer.Statement.{statement}
 use Rattle.svf.proofs.Svf.mixed_buffer.Tie as tie
 
-abbrev invariant-loop : tie.invariant-loop
+abbrev invariant-loop : tie.invariant-loop-i
 invariant-loop in- out₀ high band low n f₀ i₀ out f i = Going (each svf_next) (puts (svf_mixed high band low)) in- n f₀ out₀ i f out
 
-abbrev decreases-loop : tie.decreases-loop
+abbrev decreases-loop : tie.decreases-loop-i
 decreases-loop in- out₀ high band low n f₀ i₀ out f i = n - i
 
 pub mixed_buffer_spec : {M : Type 1} → statement M
