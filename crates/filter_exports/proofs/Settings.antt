@@ -16,7 +16,7 @@ unfolding svf_next
 each_keeps k s x = refl
 
 pub due_keeps : (d : ℕ) → Keeps svf_retained (each_due d svf_next)
-due_keeps = kept.due-keeps svf_retained svf_next (each_keeps 0)
+due_keeps = kept.due_keeps svf_retained svf_next (each_keeps 0)
 
 pub retained : {next : ℕ → Svf → Float → Svf} → Keeps svf_retained next
     → {put : ℕ → Svf → Float → Float → Float} {s f : Svf} {xs ys zs : List Float} → Filtered next put s xs ys f zs

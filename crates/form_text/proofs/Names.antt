@@ -10,7 +10,7 @@ use borrow.Author.Tests.{eqb-true, eq-eqb}
 use lib.Dec.{eqb}
 use lib.ListN.{length, get_or, take, drop, get_or-eq_default}
 use lib.Seq.{take_all}
-use Rattle.bytes.specs.Bytes.{index_of, index_after, slice}
+use Rattle.scan.specs.Scan.{index_of, slice}
 use Rattle.form_text.specs.Name.{same_text, on_first, names_in, place_of}
 
 same_itself : (a : List ℕ) → same_text a a ≡ true
@@ -50,7 +50,7 @@ names_from (suc n) (x ∷ s) = names_from n s
 
 -- the first name ends at the first space
 names_cut : (s : List ℕ) → names_in s ≡ take (index_of 32 s) s ∷ names_from (suc (index_of 32 s)) s
-unfolding names_from names_in on_first index_of index_after
+unfolding names_from names_in on_first index_of
 names_cut [] = refl
 names_cut (x ∷ s) = go (names_cut s) (eqb x 32) refl
   where

@@ -1,6 +1,6 @@
 -- A text split at a separator.
 use Rattle.std.specs.Prelude.{ℕ, zero, suc, ◌+◌, ◌-◌, cond, List, [], ◌∷◌, eqb, ltb, length, take, drop}
-use Rattle.bytes.specs.Bytes.{index_of, slice}
+use Rattle.scan.specs.Scan.{index_of, slice}
 use Rattle.form_text.specs.declared.part.Part.{Part}
 use Rattle.form_text.specs.declared.part.Parts.{Parts}
 

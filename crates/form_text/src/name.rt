@@ -7,7 +7,7 @@ ghost use Rattle.form_text.specs.Name.{same_text, names_in, place_of};
 pub fn same(s: &[u8], name: &[u8]) -> bool
     ensures { result ≡ same_text s.now name.now }
 {
-    check::same(s, name)
+    s == name
 }
 
 // The place of s among names with a space between them, counted from 0; how many they are where it is none of them.
@@ -17,7 +17,7 @@ pub fn name_index(s: &[u8], names: &[u8]) -> usize
     let mut at = 0usize;
     let mut i = 0usize;
     while at <= names.len() {
-        let end = bytes::scan::find(names, at, names.len(), b' ');
+        let end = scan::find(names, at, b' ');
         if same(s, &names[at..end]) {
             return i;
         }

@@ -29,7 +29,7 @@ fn part_end(s: &[u8], separator: u8, at: usize) -> usize
     if s.len() <= at {
         return s.len();
     }
-    bytes::scan::find(s, at, s.len(), separator)
+    scan::find(s, at, separator)
 }
 
 fn part_at(s: &[u8], separator: u8, at: usize) -> Part

@@ -50,7 +50,7 @@ refused_number count = refl
 
 -- a head that a refused call leaves is put back where it stood
 put_back : (f : Frame) (h : ℕ) (a : Act) → Leaves f (at h a) (settled f h (turn (head_at f h) a))
-put_back f h a z = ap (settled f h) (head.refused-leaves (head_at f h) a z) ∙ rw (set-get_or f.heads h no_head) refl
+put_back f h a z = ap (settled f h) (head.refused_leaves (head_at f h) a z) ∙ rw (set-get_or f.heads h no_head) refl
 
 pub refused_leaves : RefusedLeaves
 unfolding perform

@@ -10,6 +10,9 @@ use Rattle.sheets.specs.Sheet.{entries_of}
 use Rattle.sheets.proofs.Rows.{checked}
 use Rattle.library.specs.Library.{library_of}
 use Rattle.library.proofs.Rows.{write_by_rows}
+use Rattle.heads.specs.Act.{Act, run, run_two, rest, mark, back, drop, count}
+use Rattle.heads.specs.History.{HeadHistory}
+use Rattle.heads.specs.Rows.{ActCase}
 use Rattle.heads.proofs.Rows.{head_by_rows}
 use Rattle.frame.specs.Call.{Call, opening, writing, loading, at}
 use Rattle.frame.specs.History.{Histories, no_histories, head_first, call_number, advance_all}
@@ -35,6 +38,16 @@ module _ {h : ℕ} {case : ℕ → Type 0} where
 entry_there : {s : List ℕ} {e : ℕ} → e < entries_of s → LoadCase s e 5 → ⊥
 entry_there l (no_entry m) = omega arith
 
+-- no act of a head answers 1
+not_head : {x : HeadHistory} (a : Act) → ActCase x a 1 → ⊥
+not_head (run form us ys) p = elim p [ ]
+not_head (run_two form us ys zs) p = elim p [ ]
+not_head rest p = elim p [ ]
+not_head mark p = elim p [ ]
+not_head (back m) p = elim p [ ]
+not_head (drop m) p = elim p [ ]
+not_head count p = elim p [ ]
+
 row : (H : Histories) (c : Call) → Sound H → Row H c (call_number H c)
 unfolding call_number
 row H (opening s) S = (checked s).sheets
@@ -43,7 +56,7 @@ row H (loading h e) S =
     exactly
     (by_head (elim [ ])
     (by_test (leb (entries_of H.sheet) e) (λ q. no_entry (leb-true _ _ q)) (λ q. entry_there (leb-false _ _ q)) (λ q. none)))
-row H (at h a) S = exactly (by_head (elim [ ]) (head_by_rows (H.heads h) a (S.each h)).is)
+row H (at h a) S = exactly (by_head (not_head a) (head_by_rows (H.heads h) a (S.each h)).is)
 
 pub numbers_by_rows : NumbersByRows
 unfolding NumbersByRows

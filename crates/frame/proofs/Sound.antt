@@ -48,9 +48,9 @@ sound_accepted : (H : Histories) (c : Call) → Sound H → call_number H c ≡ 
 unfolding call_number
 sound_accepted H (opening s) S q = record { sheet = sound_open s q; each = S.each }
 sound_accepted H (writing out) S q = S
-sound_accepted H (loading h e) S q = sound_at H h _ S (head.sound-loaded (H.heads h) (entry_in H.sheet e) (S.each h))
+sound_accepted H (loading h e) S q = sound_at H h _ S (head.sound_loaded (H.heads h) (entry_in H.sheet e) (S.each h))
 sound_accepted H (at h a) S q =
-    sound_at H h _ S (head.sound-grown (H.heads h) a (S.each h) (past_head h (act_number (H.heads h) a) q))
+    sound_at H h _ S (head.sound_grown (H.heads h) a (S.each h) (past_head h (act_number (H.heads h) a) q))
 
 pub sound_advance : (H : Histories) (c : Call) → Sound H → Sound (advance H c)
 unfolding advance

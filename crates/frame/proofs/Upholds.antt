@@ -38,6 +38,8 @@ followed H (c ∷ cs) S =
 no_events : (l : List Event) (σ : Slot) → Fits l σ → σ ≡ Empty → l ≡ []
 no_events [] Empty bare e = refl
 no_events (i ∷ l) (Holds f) (held q) e = let z : ◌≡◌ {A = ℕ} 0 1 = cc in absurd (omega arith)
+no_events [] (Holds f) g e = elim g [ ]
+no_events (i ∷ l) Empty g e = elim g [ ]
 
 pub upheld : (H : Histories) (cs : List Call) → Sound H → Upheld (frame_for H) H cs
 unfolding snapshot_from

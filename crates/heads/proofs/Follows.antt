@@ -76,6 +76,8 @@ on_filter_is x a (i ∷ l) (Holds f) n t u (held e) h = rw (← e, h f refl) (go
     go : (b : Bool) → put x (cond b u (left x.now a (n (type_of f)))) ≡ cond b (put x u) (refuse_turn x a (n (type_of f)))
     go true = refl
     go false = refl
+on_filter_is x a [] (Holds f) n t u g h = elim g [ ]
+on_filter_is x a (i ∷ l) Empty n t u g h = elim g [ ]
 
 -- a test that gives a number, and then a turn by that number
 by_number : (x : Head) (a : Act) (b : Bool) (n : ℕ) (t : Turned) → eqb n 0 ≡ false → cond b (refuse_turn x a n) t ≡ unless x a (cond b n 0) t
@@ -87,6 +89,8 @@ on_mark : (x : Head) (l : List Event) (σ : Slot) → Fits l σ
     → mark_by x σ ≡ unless x mark (unless_bare l (cond (ltb last_mark x.marked) 8 0)) (accept_turn (marked 0 (next_mark x)) (marked_head x))
 on_mark x [] Empty bare = refl
 on_mark x (i ∷ l) (Holds f) (held e) = by_number x mark (ltb last_mark x.marked) _ _ refl
+on_mark x [] (Holds f) g = elim g [ ]
+on_mark x (i ∷ l) Empty g = elim g [ ]
 
 -- the tests of back and drop, of which the second never refuses the head of a history
 there : (x : HeadHistory) (a : Act) (m : ℕ) {y z : Head} → length x.checkpoints ≤ 4 → (m < length x.checkpoints → y ≡ z)

@@ -58,11 +58,11 @@ module _ {x : HeadHistory} where
 
   module _ {form : RunForm} {us ys : List Float} where
     run_case : (n : ℕ) → rows.RunCase rows.Has (last_type x.history) form n → ActCase x (run form us ys) n
-    run_case n (rows.no-form m) = no_form m
+    run_case n (rows.no_form m) = no_form m
     run_case n (rows.no_step z) = no_step z
 
     run_form : ActCase x (run form us ys) 9 → rows.RunCase rows.Has (last_type x.history) form 9
-    run_form (no_form m) = rows.no-form m
+    run_form (no_form m) = rows.no_form m
 
     run_step : ActCase x (run form us ys) 10 → rows.RunCase rows.Has (last_type x.history) form 10
     run_step (no_step z) = rows.no_step z
@@ -72,11 +72,11 @@ module _ {x : HeadHistory} where
 
   module _ {form : RunForm} {us ys zs : List Float} where
     two_case : (n : ℕ) → rows.RunCase rows.HasTwo (last_type x.history) form n → ActCase x (run_two form us ys zs) n
-    two_case n (rows.no-form m) = no_form_two m
+    two_case n (rows.no_form m) = no_form_two m
     two_case n (rows.no_step z) = no_step_two z
 
     two_form : ActCase x (run_two form us ys zs) 9 → rows.RunCase rows.HasTwo (last_type x.history) form 9
-    two_form (no_form_two m) = rows.no-form m
+    two_form (no_form_two m) = rows.no_form m
 
     two_step : ActCase x (run_two form us ys zs) 10 → rows.RunCase rows.HasTwo (last_type x.history) form 10
     two_step (no_step_two z) = rows.no_step z
@@ -92,7 +92,7 @@ module _ {has : FilterType → RunForm → Type 0} {t : FilterType} {form : RunF
     (over : 4294967295 < k + m → case 18)
     (is-over : case 18 → 4294967295 < k + m) where
   by_run : {n : ℕ} → First (rows.RunCase has t form) (9 ∷ 10 ∷ []) n → First case (9 ∷ 10 ∷ 18 ∷ []) (run_number n k m)
-  by_run (here (rows.no-form p)) = here (to 9 (rows.no-form p))
+  by_run (here (rows.no_form p)) = here (to 9 (rows.no_form p))
   by_run (later p (here (rows.no_step z))) = later (λ q. p (of-form q)) (here (to 10 (rows.no_step z)))
   by_run (later p (later q none)) = later (λ r. p (of-form r)) (later (λ r. q (of-step r)) (first_last (step_to over is-over (over_step k m))))
 

@@ -25,7 +25,7 @@ use Rattle.heads.specs.History.{Event, load_event, run_event, rest_event, HeadHi
 use Rattle.heads.specs.Follows.{Fits, bare, held, Good, SoundHead}
 use Rattle.heads.proofs.Counts.{run_zero, count_snoc}
 use Rattle.heads.specs.declared.Slot.{Slot}
-use Rattle.heads.specs.declared.Slot.TheVariants.{Holds}
+use Rattle.heads.specs.declared.Slot.TheVariants.{Empty, Holds}
 use Rattle.heads.specs.declared.Snapshot.{Snapshot}
 
 -- ---- histories joined, and with one event more
@@ -84,6 +84,7 @@ module _ (i : Event) (names-none : (k : FilterType) → type_with k i ≡ k)
   fits_same : (j : Event) (l : List Event) (σ : Slot) → Fits (j ∷ l) σ → Fits (j ∷ l ++ i ∷ []) (slot_with σ i)
   fits_same j l (Holds f) (held e) =
       rw (moves f) (held (keeps f ∙ e ∙ sym (type_snoc type.DcBlocker (j ∷ l) i ∙ names-none (last_type (j ∷ l)))))
+  fits_same j l Empty h = elim h [ ]
 
   fits_next : (l : List Event) (n : ℕ) → unless_bare l n ≡ 0 → Good l → Fits (l ++ i ∷ []) (snapshot_of (l ++ i ∷ [])).slot
   fits_next [] n q g = absurd (omega arith)

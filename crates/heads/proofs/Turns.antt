@@ -46,7 +46,7 @@ shortest_of_three us ys zs m e = omega (arith, length-take (length zs) (within u
 
 -- a run that is accepted fits
 pub count_fits : (o k m n : ℕ) → n ≡ run_number o k m → n ≡ 0 → k + m ≤ greatest_count
-count_fits o k m n g z = (count.run-zero o k m (sym g ∙ z)).1
+count_fits o k m n g z = (count.run_zero o k m (sym g ∙ z)).1
 
 -- ---- what the head holds
 
@@ -84,7 +84,7 @@ module _ (x : Snapshot) where
           → y ≡ holds k c → r ≡ sewn 0 y → sewn_with r ys' ≡ run_sewn x form us ys
       unfolding run_sewn
       run_accepted k c ys' y z a l i q =
-          let f = accepting _ _ d (count.run-zero o x.count m (sym g ∙ z)).0 in
+          let f = accepting _ _ d (count.run_zero o x.count m (sym g ∙ z)).0 in
           let u = rw f at a.filter_is in
           let v = rw f at a.output_is in rw (q, i, u, v, l, shortest us ys m s, e, accepting _ _ run_is z) refl
 
@@ -101,7 +101,7 @@ module _ (x : Snapshot) where
           → c ≡ x.count + m → y ≡ holds k c → r ≡ sewn 0 y → sewn_with_two r ys' zs' ≡ run_two_sewn x form us ys zs
       unfolding run_two_sewn
       two_accepted k c ys' zs' y z a l i q =
-          let f = accepting _ _ d (count.run-zero o x.count m (sym g ∙ z)).0 in
+          let f = accepting _ _ d (count.run_zero o x.count m (sym g ∙ z)).0 in
           let u = rw f at a.filter_is in
           let v = rw f at a.first_is in
           let w = rw f at a.second_is in rw (q, i, u, v, w, l, shortest_of_three us ys zs m s, e, accepting _ _ two_is z) refl

@@ -5,10 +5,10 @@ use Rattle.conversion.proofs.Steps.{scanning}
 use Rattle.conversion.proofs.series_among.Statement.{statement}
 use Rattle.conversion.proofs.series_among.Tie as tie
 
-abbrev invariant-loop : tie.invariant-loop
+abbrev invariant-loop : tie.invariant-loop-e
 invariant-loop n sheet e₀ e = (e ≤ n) × (series_among e sheet ≡ 0)
 
-abbrev decreases-loop : tie.decreases-loop
+abbrev decreases-loop : tie.decreases-loop-e
 decreases-loop n sheet e₀ e = n - e
 
 pub series_among_spec : {M : Type 1} → statement M

@@ -9,4 +9,4 @@ crossover_svf_init_spec =
     (λ c κs. search rules)
     (λ c κs. search rules)
     (λ c κs. search rules)
-    (λ c. rw (c.crossover-svf-fields.ensures, c.before.init.ensures, c.before.before.crossover-svf-from.ensures)))
+    (λ c. rw (c.crossover_svf_fields.ensures, c.before.init.ensures, c.before.before.crossover_svf_from.ensures)))

@@ -8,4 +8,4 @@ crossover_svf_new_spec =
     (tie.spec
     (λ c κs. search rules)
     (λ c κs. search rules)
-    (λ c. rw (c.crossover-svf-fields.ensures, c.before.new.ensures)))
+    (λ c. rw (c.crossover_svf_fields.ensures, c.before.new.ensures)))

@@ -9,4 +9,4 @@ crossover_svf_reset_spec =
     (λ c κs. search rules)
     (λ c κs. search rules)
     (λ c κs. search rules)
-    (λ c. rw (c.crossover-svf-fields.ensures, c.before.reset.ensures, c.before.before.crossover-svf-from.ensures)))
+    (λ c. rw (c.crossover_svf_fields.ensures, c.before.reset.ensures, c.before.before.crossover_svf_from.ensures)))

@@ -9,4 +9,4 @@ crossover_svf_set_f_fq_spec =
     (λ c κs. search rules)
     (λ c κs. search rules)
     (λ c κs. search rules)
-    (λ c. rw (c.crossover-svf-fields.ensures, c.before.set-f-fq.ensures, c.before.before.crossover-svf-from.ensures)))
+    (λ c. rw (c.crossover_svf_fields.ensures, c.before.set_f_fq.ensures, c.before.before.crossover_svf_from.ensures)))

@@ -9,4 +9,4 @@ dc_blocker_init_spec =
     (λ c κs. search rules)
     (λ c κs. search rules)
     (λ c κs. search rules)
-    (λ c. rw (c.dc-blocker-fields.ensures, c.before.init.ensures)))
+    (λ c. rw (c.dc_blocker_fields.ensures, c.before.init.ensures)))

@@ -9,4 +9,4 @@ modified_svf_init_spec =
     (λ c κs. search rules)
     (λ c κs. search rules)
     (λ c κs. search rules)
-    (λ c. rw (c.modified-svf-fields.ensures, c.before.init.ensures, c.before.before.modified-svf-from.ensures)))
+    (λ c. rw (c.modified_svf_fields.ensures, c.before.init.ensures, c.before.before.modified_svf_from.ensures)))

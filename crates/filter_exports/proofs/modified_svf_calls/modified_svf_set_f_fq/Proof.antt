@@ -9,4 +9,4 @@ modified_svf_set_f_fq_spec =
     (λ c κs. search rules)
     (λ c κs. search rules)
     (λ c κs. search rules)
-    (λ c. rw (c.modified-svf-fields.ensures, c.before.set-f-fq.ensures, c.before.before.modified-svf-from.ensures)))
+    (λ c. rw (c.modified_svf_fields.ensures, c.before.set_f_fq.ensures, c.before.before.modified_svf_from.ensures)))

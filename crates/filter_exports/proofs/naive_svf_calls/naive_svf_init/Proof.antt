@@ -9,4 +9,4 @@ naive_svf_init_spec =
     (λ c κs. search rules)
     (λ c κs. search rules)
     (λ c κs. search rules)
-    (λ c. rw (c.naive-svf-fields.ensures, c.before.init.ensures)))
+    (λ c. rw (c.naive_svf_fields.ensures, c.before.init.ensures)))

@@ -9,4 +9,4 @@ naive_svf_reset_spec =
     (λ c κs. search rules)
     (λ c κs. search rules)
     (λ c κs. search rules)
-    (λ c. rw (c.naive-svf-fields.ensures, c.before.reset.ensures, c.before.before.naive-svf-from.ensures)))
+    (λ c. rw (c.naive_svf_fields.ensures, c.before.reset.ensures, c.before.before.naive_svf_from.ensures)))

@@ -9,4 +9,4 @@ one_pole_init_spec =
     (λ c κs. search rules)
     (λ c κs. search rules)
     (λ c κs. search rules)
-    (λ c. rw (c.one-pole-fields.ensures, c.before.init.ensures)))
+    (λ c. rw (c.one_pole_fields.ensures, c.before.init.ensures)))

@@ -9,4 +9,4 @@ one_pole_reset_spec =
     (λ c κs. search rules)
     (λ c κs. search rules)
     (λ c κs. search rules)
-    (λ c. rw (c.one-pole-fields.ensures, c.before.reset.ensures, c.before.before.one-pole-from.ensures)))
+    (λ c. rw (c.one_pole_fields.ensures, c.before.reset.ensures, c.before.before.one_pole_from.ensures)))

@@ -9,4 +9,4 @@ svf_init_spec =
     (λ c κs. search rules)
     (λ c κs. search rules)
     (λ c κs. search rules)
-    (λ c. rw (c.svf-fields.ensures, c.before.init.ensures)))
+    (λ c. rw (c.svf_fields.ensures, c.before.init.ensures)))

@@ -9,4 +9,4 @@ svf_reset_spec =
     (λ c κs. search rules)
     (λ c κs. search rules)
     (λ c κs. search rules)
-    (λ c. rw (c.svf-fields.ensures, c.before.reset.ensures, c.before.before.svf-from.ensures)))
+    (λ c. rw (c.svf_fields.ensures, c.before.reset.ensures, c.before.before.svf_from.ensures)))

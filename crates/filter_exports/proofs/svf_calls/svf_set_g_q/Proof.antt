@@ -9,4 +9,4 @@ svf_set_g_q_spec =
     (λ c κs. search rules)
     (λ c κs. search rules)
     (λ c κs. search rules)
-    (λ c. rw (c.svf-fields.ensures, c.before.set-g-q.ensures, c.before.before.svf-from.ensures)))
+    (λ c. rw (c.svf_fields.ensures, c.before.set_g_q.ensures, c.before.before.svf_from.ensures)))

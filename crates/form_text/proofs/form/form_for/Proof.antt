@@ -27,4 +27,4 @@ form_for_spec =
     (λ c. search placing)
     (λ c. search placing)
     (λ c. search placing)
-    (λ c. past_places (forms c.before.before.args.s.now c.before.before.args.p) NoForm c.match.rest refl))
+    (λ c. past_places (forms c.before.before.args.s.now c.before.before.args.p) NoForm c.in_default.rest refl))

@@ -16,4 +16,4 @@ mode_of_spec =
     (λ c. search placing)
     (λ c. search placing)
     (λ c. search placing)
-    (λ c. past_places modes NoMode c.match.rest c.before.name-index.ensures))
+    (λ c. past_places modes NoMode c.in_default.rest c.before.name_index.ensures))

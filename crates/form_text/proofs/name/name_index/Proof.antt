@@ -4,10 +4,10 @@ use Rattle.form_text.proofs.Names.{Looking, looking}
 use Rattle.form_text.proofs.name.name_index.Statement.{statement}
 use Rattle.form_text.proofs.name.name_index.Tie as tie
 
-abbrev invariant-loop : tie.invariant-loop
+abbrev invariant-loop : tie.invariant-loop-at
 invariant-loop s names at₀ i₀ at i = Looking s names at i
 
-abbrev decreases-loop : tie.decreases-loop
+abbrev decreases-loop : tie.decreases-loop-at
 decreases-loop s names at₀ i₀ at i = length names + 1 - at
 
 pub name_index_spec : {M : Type 1} → statement M

@@ -8,4 +8,4 @@ run_number_spec =
     (tie.spec
     (λ c. search rules)
     (λ c. search rules)
-    (λ c. rw (c.then.ensures, c.before.count-refusal.ensures)))
+    (λ c. rw (c.then.ensures, c.before.count_refusal.ensures)))

@@ -6,7 +6,7 @@ use Rattle.heads.proofs.marks.marks_below.Tie as tie
 
 returns : tie.Need-returns
 unfolding table marks_below
-returns c = rw (c.before.before.before.before.before.before.only_if.ensures, c.before.before.before.before.only-if2.ensures, c.before.before.only-if3.ensures, c.only-if4.ensures)
+returns c = rw (c.before.before.before.before.before.before.only_if-a.ensures, c.before.before.before.before.only_if-b.ensures, c.before.before.only_if-c.ensures, c.only_if-d.ensures)
 
 pub marks_below_spec : {M : Type 1} → statement M
 marks_below_spec =
