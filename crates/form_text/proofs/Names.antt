@@ -94,19 +94,21 @@ module _ (s names : List ℕ) where
   unfolding names_from
   look_start = record { inside = omega arith; low = omega arith; is = sym (zero-add _) }
 
-  module _ {at i end : ℕ} {is : Bool} (c : Looking s names at i) (l : at ≤ length names) (e : end ≡ at + index_of 32 (slice at (length names) names)) (m : end ≤ length names)
+  module _ {at i end : ℕ} {is : Bool} (c : Looking s names at i) (l : at ≤ length names) (e : at ≤ length names → end ≡ at + index_of 32 (slice at (length names) names))
+      (m : end ≤ length names)
       (b : is ≡ same_text s (take (end - at) (drop at names))) where
     pub look_found : is ≡ true → i ≡ place_of s (names_in names)
     unfolding place_of
-    look_found t = sym (c.is ∙ rw (from_cut at end l e, ← b, t) (omega arith))
+    look_found t = sym (c.is ∙ rw (from_cut at end l (e l), ← b, t) (omega arith))
 
     pub look_next : is ≡ false → Looking s names (end + 1) (i + 1)
     unfolding place_of
     look_next t =
+        let f = e l in
         record {
           inside = omega arith;
           low = omega (arith, c.low);
-          is = c.is ∙ rw (from_cut at end l e, ← b, t) (omega arith);
+          is = c.is ∙ rw (from_cut at end l (e l), ← b, t) (omega arith);
         }
 
   pub look_done : {at i : ℕ} → Looking s names at i → length names < at → i ≡ place_of s (names_in names)
@@ -115,16 +117,6 @@ module _ (s names : List ℕ) where
 
 -- ---- what stands at a name's place in a list
 
--- k is none of the first n numbers, as the last arm of a `match` knows it
-unfoldable pub Beyond : ℕ → ℕ → Type 0
-Beyond zero k = Unit
-Beyond (suc n) k = Beyond n k × (k ≡ n → ⊥)
-
-beyond : (n k : ℕ) → Beyond n k → n ≤ k
-unfolding Beyond
-beyond zero k b = omega arith
-beyond (suc n) k b = let l = beyond n k b.0 in let e = b.1 in omega arith
-
 module _ {A : Type 0} {p : ℕ} (xs : List A) (d : A) where
   pub at_place : {v : A} (i : ℕ) → p ≡ i → v ≡ get_or xs i d → v ≡ get_or xs p d
   at_place i f q = q ∙ rw f refl
@@ -132,8 +124,8 @@ module _ {A : Type 0} {p : ℕ} (xs : List A) (d : A) where
   pub at_name : {v : A} {k : ℕ} (i : ℕ) → k ≡ p → k ≡ i → v ≡ get_or xs i d → v ≡ get_or xs p d
   at_name i e f q = q ∙ rw (← f, e) refl
 
-  pub past_places : {k : ℕ} → Beyond (length xs) k → k ≡ p → d ≡ get_or xs p d
-  past_places {k} b e = rw (← e) (sym (get_or-eq_default xs d (beyond (length xs) k b)))
+  pub past_places : {k : ℕ} → length xs ≤ k → k ≡ p → d ≡ get_or xs p d
+  past_places {k} b e = rw (← e) (sym (get_or-eq_default xs d b))
 
 pub ruleset placing = (at_place, at_name, rules)
 
