@@ -1,4 +1,5 @@
 // The six filters as one enum: what a head holds. Rest, and a filter as a row of eight numbers and back.
+#![tactic(auto)]
 
 ghost use Rattle.std.specs.Prelude.{◌≡◌};
 ghost use Rattle.any_filter.specs.Cases.{of_dc, of_one_pole, of_svf, of_naive, of_modified, of_crossover, type_of, without_last, rested};

@@ -1,4 +1,5 @@
 // The converter (02 f): a sheet of either edition as a sheet of the one that is wanted. It needs no frame, and touches none.
+#![tactic(auto)]
 
 ghost use Rattle.std.specs.Prelude.{◌≡◌};
 ghost use Rattle.filter_core.specs.Refusal.{unless_refused};

@@ -1,4 +1,5 @@
 // That a converted sheet loads what the sheet itself loads (02 f), by the frame's own definitions: a theorem, and no code.
+#![tactic(auto)]
 
 ghost use Rattle.converted_loads.specs.ConvertedLoads.{ConvertedLoads};
 

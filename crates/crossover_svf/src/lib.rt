@@ -1,4 +1,5 @@
 // Two passes of the modified state-variable filter with the same coefficients, for Linkwitz-Riley crossovers.
+#![tactic(auto)]
 
 ghost use Rattle.std.specs.Prelude.{◌≡◌};
 ghost use Rattle.filter_core.specs.Buffer.{Filtered, within, each, puts};

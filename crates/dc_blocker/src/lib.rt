@@ -1,4 +1,5 @@
 // Blocks what is constant in a signal, in place.
+#![tactic(auto)]
 
 ghost use Rattle.std.specs.Prelude.{◌≡◌};
 ghost use Rattle.filter_core.specs.Buffer.{Filtered, each, puts};

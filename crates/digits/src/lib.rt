@@ -1,4 +1,6 @@
 // Numbers, words and bytes as text: read from slices of ASCII, and put into them.
+#![tactic(auto)]
+
 mod decimal;
 mod hex;
 mod output;

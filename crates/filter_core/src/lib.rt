@@ -1,5 +1,6 @@
 // What the six filters share: their two enums, the two refusals, the length that a buffer form works over, the choice of an output by
 // mode, and the evaluator of a power series.
+#![tactic(auto)]
 
 ghost use Rattle.std.specs.Prelude.{◌≡◌, min};
 ghost use Rattle.filter_core.specs.Mode.{by_mode};

@@ -1,6 +1,7 @@
 // The filters for Rust and C to call: a function for each method of the six types. filter_fields says how a filter is an array of
 // floats and what the numbers of a mode and an approximation name. A function that can be refused answers 0 or the refusal's number,
 // and a refused one changes nothing.
+#![tactic(auto)]
 
 pub mod crossover_svf_calls;
 pub mod dc_blocker_calls;

@@ -1,6 +1,7 @@
 // What the exported functions take for a filter, a mode and an approximation. A filter is the array of its fields, in the source's
 // order. A mode and an approximation are numbers, in their order of declaration:
 // 0 LowPass, 1 BandPass, 2 BandPassNormalized, 3 HighPass; 0 Exact, 1 Accurate, 2 Fast, 3 Dirty, 4 Series.
+#![tactic(auto)]
 
 ghost use Rattle.std.specs.Prelude.{◌≡◌};
 ghost use Rattle.filter_fields.specs.Numbers.{mode_of, approximation_of};

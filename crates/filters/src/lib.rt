@@ -1,4 +1,5 @@
 // All that the port of filter.rs offers, under one name: `use filters::Svf;`.
+#![tactic(auto)]
 
 pub use crossover_svf::CrossoverSvf;
 pub use dc_blocker::DcBlocker;

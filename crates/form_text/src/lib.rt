@@ -1,5 +1,7 @@
 // The parts of a text, names among others, and the form of a run as text.
 // Nothing here has a `requires`: any bytes of any length are read.
+#![tactic(auto)]
+
 mod form;
 mod name;
 mod part;

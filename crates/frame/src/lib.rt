@@ -1,5 +1,6 @@
 // The frame: twelve heads and one library.
 // Each call takes the frame by value and hands it back in its answer. A refused call hands it back as it was.
+#![tactic(auto)]
 
 ghost use Rattle.std.specs.Prelude.{◌≡◌, ◌≤◌};
 ghost use Rattle.heads.specs.Act.{run, run_two, rest, mark, back, drop, count};

@@ -1,6 +1,8 @@
 // The frame from the command line: reads calls as text, one to a line, makes each on one frame, and writes an answer line for each.
 // The memory is fixed, whatever the length of the input. A program has no exit status of its own: what fails is said on standard error,
 // and then nothing more is read or answered.
+#![tactic(auto)]
+
 mod answers;
 mod faults;
 mod help;

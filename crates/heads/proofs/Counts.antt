@@ -7,7 +7,7 @@ use native.Mathlib.Omega.{arith}
 use borrow.Author.Tests.{lt-ltb, le-ltb, ltb-false, eqb-true, eqb-false}
 use lib.Dec.{ltb, eqb}
 use Rattle.heads.specs.Snapshot.{greatest_count, count_refusal, run_number}
-use Rattle.heads.specs.History.{Event, load_event, run_event, rest_event, since_with, since_from, samples_in, count_of, count_with, snapshot_with, snapshot_from, snapshot_of}
+use Rattle.heads.specs.History.{Event, load_event, run_event, rest_event, since_with, since_from, samples_in, count_of, count_with, snapshot_with, snapshot_from}
 use Rattle.heads.specs.Counts.{CountsAreSums}
 use Rattle.heads.specs.declared.Snapshot.{Snapshot}
 

@@ -1,5 +1,6 @@
 // A head: empty or with one filter and a count of the samples sewn since its load, and up to four marks to go back to.
 // Each call takes the head by value and hands it back in its answer. A refused call hands it back as it was.
+#![tactic(auto)]
 
 mod count;
 mod marks;

@@ -1,4 +1,5 @@
 // A library: a sheet's entries and its edition, held by value.
+#![tactic(auto)]
 
 ghost use Rattle.std.specs.Prelude.{◌≡◌, ◌%◌, ◌≤◌};
 ghost use Rattle.lists.specs.Over.{over};

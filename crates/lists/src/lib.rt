@@ -1,4 +1,5 @@
 // Bytes written over others, and the refusal of an output that is too short for them. specs/ and proofs/ also have tables, the lists of a function's first values, for the crates that speak of them.
+#![tactic(auto)]
 
 ghost use Rattle.std.specs.Prelude.{◌≡◌};
 ghost use Rattle.lists.specs.Over.{over, Puts};

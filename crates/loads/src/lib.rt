@@ -1,4 +1,5 @@
 // The filter that an entry of a library becomes in a head.
+#![tactic(auto)]
 
 ghost use Rattle.std.specs.Prelude.{◌≡◌};
 ghost use Rattle.loads.specs.Load.{filter_for, filter_of};

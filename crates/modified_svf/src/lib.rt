@@ -1,4 +1,5 @@
 // Modified Chamberlin state-variable filter (Duane K. Wise).
+#![tactic(auto)]
 
 ghost use Rattle.std.specs.Prelude.{◌≡◌};
 ghost use Rattle.filter_core.specs.Buffer.{Filtered, within, each, puts};

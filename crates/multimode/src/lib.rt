@@ -1,4 +1,5 @@
 // The gains of multimode, which goes from low-pass at 0 by the inverted high-pass at 0.5 to band-pass at 1.
+#![tactic(auto)]
 
 ghost use Rattle.std.specs.Prelude.{◌≡◌};
 ghost use Rattle.multimode.specs.Multimode.{high_gain, band_gain, low_gain};

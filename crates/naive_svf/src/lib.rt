@@ -1,4 +1,5 @@
 // Naive Chamberlin state-variable filter.
+#![tactic(auto)]
 
 ghost use Rattle.std.specs.Prelude.{◌≡◌, ◌<◌};
 ghost use Rattle.filter_core.specs.Buffer.{Filtered, within, each, puts, puts_due};

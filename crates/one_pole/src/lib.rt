@@ -1,4 +1,5 @@
 // Zero-delay-feedback one-pole filter, and the tangent that it shares with the state-variable filter.
+#![tactic(auto)]
 
 ghost use Rattle.std.specs.Prelude.{◌≡◌};
 ghost use Rattle.filter_core.specs.Refusal.{frequency_refusal, unless_refused};

@@ -1,5 +1,7 @@
 // What a head does with its filter: the forms of a run, what a run is refused for, and the runs.
 // A run that would be refused leaves filter and outputs as they were, so that a caller may ask for the number first or not at all.
+#![tactic(auto)]
+
 mod form;
 mod loops;
 mod one;

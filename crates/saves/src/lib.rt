@@ -1,5 +1,6 @@
 // A save of the library (02 h). It keeps the bytes of the sheet that it began with, and hands them out part by part; what is opened in the
 // meantime does not reach it.
+#![tactic(auto)]
 
 ghost use Rattle.std.specs.Prelude.{◌≡◌, length};
 ghost use Rattle.filter_core.specs.Refusal.{unless_refused};

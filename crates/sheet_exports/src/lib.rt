@@ -1,4 +1,5 @@
 // The sheet reader for C to call, for a machine that has room for no more than that.
+#![tactic(auto)]
 
 ghost use Rattle.std.specs.Prelude.{◌≡◌, ◌+◌, ◌*◌, ◌≤◌, ◌<◌, length, take, drop};
 ghost use Rattle.filter_core.specs.Refusal.{unless_refused};

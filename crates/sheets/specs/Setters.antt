@@ -1,5 +1,5 @@
 -- A sheet's 11 is the setter's: `frequency_refusal` is the number in the contracts of set_f and both set_f_q.
-use Rattle.std.specs.Prelude.{ℕ, ◌≡◌}
+use Rattle.std.specs.Prelude.{◌≡◌}
 use Rattle.filter_core.specs.Arithmetic.{word}
 use Rattle.filter_core.specs.Refusal.{frequency_refusal}
 use Rattle.filter_core.specs.declared.FrequencyApproximation.{FrequencyApproximation}

@@ -1,4 +1,6 @@
 // Motif sheets: what a sheet's bytes say, and which number refuses them.
+#![tactic(auto)]
+
 mod edition;
 mod edition_one;
 mod entry;

@@ -1,6 +1,8 @@
 // Reading and writing by a descriptor that may not be ready: a call that would block (EAGAIN), or that a signal broke off (EINTR), is made
 // again. Any other failure is handed to the caller at once, while errno still tells of it.
 // The loops count their turns down, since nothing says that a descriptor is ever ready, from a number that no run uses up.
+#![tactic(auto)]
+
 ghost use Rattle.std.specs.Prelude.{◌≤◌, min, ◌≡◌, T, length};
 ghost use Rattle.io.specs.Counts.{IsPrefixLen};
 

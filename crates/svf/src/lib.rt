@@ -1,4 +1,5 @@
 // Zero-delay-feedback state-variable filter.
+#![tactic(auto)]
 
 ghost use Rattle.std.specs.Prelude.{◌≡◌, ◌+◌, ◌<◌, min};
 ghost use Rattle.filter_core.specs.Buffer.{Filtered, within, each, puts, each_due, puts_due};

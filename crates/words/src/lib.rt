@@ -1,5 +1,6 @@
 // Words of 32 bits: from bytes, low byte first, and to binary32 and back.
 // All NaNs are one value here, so of the NaN patterns only one comes back from binary32: the one that `other_nan` lets pass.
+#![tactic(auto)]
 
 ghost use Rattle.std.specs.Prelude.{◌≡◌, ◌+◌, get_or};
 ghost use Rattle.std.specs.Float.{binary32};

@@ -1,4 +1,5 @@
 // Examples of the definitions that the filters' contracts cite, proved by computation.
+#![tactic(auto)]
 
 ghost use Rattle.worked_examples.specs.Examples.{WorkedExamples};
 ghost use Rattle.worked_examples.specs.Differences.{Differences};

@@ -1,4 +1,4 @@
-use Rattle.std.proofs.Common.{arith, refl, length, drop, ◌≤◌, ◌<◌}
+use Rattle.std.proofs.Common.{arith, refl, drop}
 use lib.ListN.{length-drop}
 use Rattle.scan.proofs.First.{found_at, found_none, rest_is}
 use Rattle.scan.proofs.find.Goals as goal

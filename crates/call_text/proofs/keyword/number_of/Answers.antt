@@ -1,6 +1,5 @@
 use Rattle.std.proofs.Common.{rules}
 use Rattle.form_text.specs.Name.{on_first, names_in}
-use Rattle.call_text.specs.Keyword.{keyword_of}
 use Rattle.call_text.proofs.keyword.number_of.Goals as goal
 
 pub returns : goal.returns
