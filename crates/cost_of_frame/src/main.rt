@@ -11,8 +11,9 @@ ghost use Rattle.std.specs.Prelude.{◌<◌, ◌≤◌};
 use filters::{FilterMode, FrequencyApproximation, Svf};
 use frame::Frame;
 use heads::{Head, Slot};
-use libc::{STDIN_FILENO, STDOUT_FILENO};
 use runs::RunForm;
+use std::io::{Read, Result, Write};
+use std::time::{CpuClock, Duration};
 
 // Where the mode, the sheet and two words of its entry stand, where the samples begin, how many they are, and where they end.
 const MODE: usize = 4;
@@ -40,11 +41,10 @@ struct Task {
     length: usize,
 }
 
-fn main() {
+fn main(rt: HostRuntime) {
     let mut sent = [0u8; END];
-    if io::read_full(STDIN_FILENO, &mut sent) < END {
-        io::write_all(
-            STDOUT_FILENO,
+    if rt.stdin().read_exact(&mut sent).is_err() {
+        let _ = rt.stdout().write_all(
             b"cost_of_frame: times the samples that tools/bench --svf sends it\n",
         );
         return;
@@ -52,7 +52,7 @@ fn main() {
     let mut input = [0.0f32; COUNT];
     samples(&sent, &mut input);
     let mut out = [0.0f32; COUNT];
-    serve(task_of(&sent), &input, &mut out);
+    serve(rt, task_of(&sent), &input, &mut out);
 }
 
 fn float_at(sent: &[u8], at: usize) -> f32 {
@@ -87,12 +87,12 @@ fn samples(sent: &[u8], input: &mut [f32]) {
 }
 
 // A proved loop has to end, and nothing says that the turns do. So the loop counts down, from a number that nothing uses up.
-fn serve(task: Task, input: &[f32], out: &mut [f32]) {
+fn serve(rt: HostRuntime, task: Task, input: &[f32], out: &mut [f32]) {
     let mut turn = [0u8; 1];
     let mut turns = u64::MAX;
-    while turns > 0 && io::read_full(STDIN_FILENO, &mut turn) == 1 {
+    while turns > 0 && rt.stdin().read_exact(&mut turn).is_ok() {
         prepare(turn[0], out);
-        take_turn(task, input, out);
+        take_turn(rt, task, input, out);
         turns -= 1;
     }
 }
@@ -109,37 +109,45 @@ fn prepare(turn: u8, out: &mut [f32]) {
     }
 }
 
-fn take_turn(task: Task, input: &[f32], out: &mut [f32]) {
+fn take_turn(rt: HostRuntime, task: Task, input: &[f32], out: &mut [f32]) {
     let mode = task.mode;
     if task.length == 0 {
         let filter = task.filter;
-        alone(filter, mode, input, out);
+        alone(rt, filter, mode, input, out);
     } else {
         let library = task.library;
-        in_frame(library, mode, task.length, input, out);
+        in_frame(rt, library, mode, task.length, input, out);
     }
 }
 
-fn alone(filter: Svf, mode: FilterMode, input: &[f32], out: &mut [f32]) {
-    let before = microseconds(libc::clock());
+fn alone(rt: HostRuntime, filter: Svf, mode: FilterMode, input: &[f32], out: &mut [f32]) {
+    let before = microseconds(rt.process_cpu_time());
     let next = filter.process_buffer(input, out, mode);
-    let after = microseconds(libc::clock());
+    let after = microseconds(rt.process_cpu_time());
     answer(
+        rt,
         nanoseconds(before, after),
         any_filter::of_svf(next).fields(),
         out,
     );
 }
 
-fn in_frame(library: Frame, mode: FilterMode, length: usize, input: &[f32], out: &mut [f32])
+fn in_frame(
+    rt: HostRuntime,
+    library: Frame,
+    mode: FilterMode,
+    length: usize,
+    input: &[f32],
+    out: &mut [f32],
+)
     requires { 0 < length }
 {
     let loaded = library.load(0, 0);
-    let before = microseconds(libc::clock());
+    let before = microseconds(rt.process_cpu_time());
     let frame = run_all(loaded.frame, mode, length, input, out);
-    let after = microseconds(libc::clock());
+    let after = microseconds(rt.process_cpu_time());
     let shown = frame.show(0);
-    answer(nanoseconds(before, after), fields(shown.head), out);
+    answer(rt, nanoseconds(before, after), fields(shown.head), out);
 }
 
 // Where a run from `at` on ends, of n samples.
@@ -166,9 +174,12 @@ fn run_all(loaded: Frame, mode: FilterMode, length: usize, input: &[f32], out: &
     frame
 }
 
-// 0 where the clock cannot be read.
-fn microseconds(t: i64) -> u64 {
-    if t > 0 { t as u64 } else { 0 }
+// 0 where the clock cannot be read, or says more than a u64 holds.
+fn microseconds(t: Result<Duration>) -> u64 {
+    match t {
+        Ok(passed) => u64::try_from(passed.as_micros()).unwrap_or(0),
+        Err(_) => 0,
+    }
 }
 
 // What has passed, if it is no more than a word holds.
@@ -184,12 +195,12 @@ fn nanoseconds(before: u64, after: u64) -> u32 {
     }
 }
 
-fn answer(time: u32, numbers: [f32; 8], out: &[f32]) {
+fn answer(rt: HostRuntime, time: u32, numbers: [f32; 8], out: &[f32]) {
     let mut text = [0u8; ANSWER];
     let a = put_word(time, &mut text, 0);
     let b = put_words(&numbers, &mut text, a);
     put_words(out, &mut text, b);
-    io::write_all(STDOUT_FILENO, &text);
+    let _ = rt.stdout().write_all(&text);
 }
 
 fn fields(head: Head) -> [f32; 8] {

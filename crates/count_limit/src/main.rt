@@ -10,8 +10,8 @@ ghost use Rattle.digits.specs.Place.{Counts};
 
 use filter_core::FilterMode;
 use frame::Frame;
-use libc::STDOUT_FILENO;
 use runs::RunForm;
+use std::io::{Stdout, Write};
 
 // An Svf with g 1, r 1 and h 0.25, and a naive filter in Exact at 0.1 with a resonance of 0.5.
 const SHEET: [u8; 28] = [
@@ -40,15 +40,17 @@ struct Forms {
     absent: RunForm,
 }
 
-fn main() {
+fn main(rt: HostRuntime) {
+    let to = rt.stdout();
     let mut input = [1.0f32; BLOCK];
     input[0] = -0.5;
     let mut first = [7.0f32; BLOCK];
     let mut second = [7.0f32; BLOCK];
     let sheet = SHEET;
     let opened = Frame::fresh().open(&sheet);
-    print(b"An Svf, by strides of a whole run.\n");
+    print(to, b"An Svf, by strides of a whole run.\n");
     try_limit(
+        to,
         opened.frame,
         0,
         Forms {
@@ -63,8 +65,9 @@ fn main() {
         &mut first,
         &mut second,
     );
-    print(b"A naive filter, by decimation.\n");
+    print(to, b"A naive filter, by decimation.\n");
     try_limit(
+        to,
         opened.frame,
         1,
         Forms {
@@ -81,8 +84,8 @@ fn main() {
     );
 }
 
-fn print(text: &[u8]) {
-    io::write_all(STDOUT_FILENO, text);
+fn print(mut to: Stdout, text: &[u8]) {
+    let _ = to.write_all(text);
 }
 
 // ---- a line
@@ -104,18 +107,18 @@ fn put_call(name: &[u8], n: usize, number: u8, count: u32, text: &mut [u8]) -> u
     put_named(b", count ", count as usize, text, b)
 }
 
-fn print_line(text: &mut [u8], at: usize) {
+fn print_line(to: Stdout, text: &mut [u8], at: usize) {
     let end = digits::put(b"\n", text, at);
     let n = streams::within(end, text);
-    print(&text[..n]);
+    print(to, &text[..n]);
 }
 
 // What is said of a call that is called `name`.
-fn say(name: &[u8], n: usize, number: u8, frame: Frame) -> Frame {
+fn say(to: Stdout, name: &[u8], n: usize, number: u8, frame: Frame) -> Frame {
     let counted = frame.count(HEAD);
     let mut text = [0u8; 120];
     let at = put_call(name, n, number, counted.count, &mut text);
-    print_line(&mut text, at);
+    print_line(to, &mut text, at);
     counted.frame
 }
 
@@ -124,16 +127,16 @@ fn put_output(output: f32, text: &mut [u8], at: usize) -> usize {
     digits::put_word(output, text, a)
 }
 
-fn say_one(name: &[u8], n: usize, number: u8, frame: Frame, output: f32) -> Frame {
+fn say_one(to: Stdout, name: &[u8], n: usize, number: u8, frame: Frame, output: f32) -> Frame {
     let counted = frame.count(HEAD);
     let mut text = [0u8; 120];
     let a = put_call(name, n, number, counted.count, &mut text);
     let at = put_output(output, &mut text, a);
-    print_line(&mut text, at);
+    print_line(to, &mut text, at);
     counted.frame
 }
 
-fn say_two(n: usize, number: u8, frame: Frame, first: f32, second: f32) -> Frame {
+fn say_two(to: Stdout, n: usize, number: u8, frame: Frame, first: f32, second: f32) -> Frame {
     let counted = frame.count(HEAD);
     let mut text = [0u8; 120];
     let a = put_call(
@@ -145,7 +148,7 @@ fn say_two(n: usize, number: u8, frame: Frame, first: f32, second: f32) -> Frame
     );
     let b = put_output(first, &mut text, a);
     let at = put_output(second, &mut text, b);
-    print_line(&mut text, at);
+    print_line(to, &mut text, at);
     counted.frame
 }
 
@@ -168,6 +171,7 @@ fn within(n: usize, input: &[f32]) -> usize
 }
 
 fn run(
+    to: Stdout,
     name: &[u8],
     frame: Frame,
     form: RunForm,
@@ -178,10 +182,11 @@ fn run(
     let m = within(n, input);
     lend(output);
     let answer = frame.run(HEAD, form, &input[..m], output);
-    say_one(name, m, answer.number, answer.frame, first_of(output))
+    say_one(to, name, m, answer.number, answer.frame, first_of(output))
 }
 
 fn run_two(
+    to: Stdout,
     frame: Frame,
     form: RunForm,
     n: usize,
@@ -194,6 +199,7 @@ fn run_two(
     lend(second);
     let answer = frame.run_two(HEAD, form, &input[..m], first, second);
     say_two(
+        to,
         m,
         answer.number,
         answer.frame,
@@ -202,14 +208,14 @@ fn run_two(
     )
 }
 
-fn mark(frame: Frame) -> Frame {
+fn mark(to: Stdout, frame: Frame) -> Frame {
     let answer = frame.mark(HEAD);
-    say(b"mark ", answer.mark, answer.number, answer.frame)
+    say(to, b"mark ", answer.mark, answer.number, answer.frame)
 }
 
-fn back(frame: Frame, m: usize) -> Frame {
+fn back(to: Stdout, frame: Frame, m: usize) -> Frame {
     let answer = frame.back(HEAD, m);
-    say(b"back to mark ", m, answer.number, answer.frame)
+    say(to, b"back to mark ", m, answer.number, answer.frame)
 }
 
 // ---- the way to the limit
@@ -255,7 +261,13 @@ fn try_length(tried: Tried, form: RunForm, n: usize, input: &[f32], output: &mut
     }
 }
 
-fn each_length(frame: Frame, form: RunForm, input: &[f32], output: &mut [f32]) -> Frame {
+fn each_length(
+    to: Stdout,
+    frame: Frame,
+    form: RunForm,
+    input: &[f32],
+    output: &mut [f32],
+) -> Frame {
     let mut tried = Tried {
         frame,
         refused: 0,
@@ -267,16 +279,18 @@ fn each_length(frame: Frame, form: RunForm, input: &[f32], output: &mut [f32]) -
         n += 1;
     }
     let told = say(
+        to,
         b"up to 100 samples, accepted ",
         tried.accepted,
         0,
         tried.frame,
     );
-    say(b"above 100 samples, refused ", tried.refused, 18, told)
+    say(to, b"above 100 samples, refused ", tried.refused, 18, told)
 }
 
 // To one sample short of the limit, with a mark there, and one with 100 samples left.
 fn come_near(
+    to: Stdout,
     library: Frame,
     entry: usize,
     forms: Forms,
@@ -288,13 +302,26 @@ fn come_near(
     let plain = forms.plain;
     let loaded = library.load(HEAD, entry);
     let near = blocks(loaded.frame, way, input, output);
-    let a = mark(run(b"stepped, samples ", near, stepped, LAST, input, output));
-    let b = each_length(each_length(a, stepped, input, output), plain, input, output);
-    mark(run(b"stepped, samples ", b, stepped, 99, input, output))
+    let a = mark(
+        to,
+        run(to, b"stepped, samples ", near, stepped, LAST, input, output),
+    );
+    let b = each_length(
+        to,
+        each_length(to, a, stepped, input, output),
+        plain,
+        input,
+        output,
+    );
+    mark(
+        to,
+        run(to, b"stepped, samples ", b, stepped, 99, input, output),
+    )
 }
 
 // A sample too many, in both calls; a step of 0 and another type's form come first.
 fn go_over(
+    to: Stdout,
     near: Frame,
     forms: Forms,
     input: &[f32; BLOCK],
@@ -305,21 +332,36 @@ fn go_over(
     let two = forms.two;
     let no_step = forms.no_step;
     let absent = forms.absent;
-    let a = run(b"stepped, samples ", near, stepped, 2, input, first);
-    let b = run_two(a, two, 2, input, first, second);
-    let c = run(b"a step of 0, samples ", b, no_step, 2, input, first);
-    run(b"another type's form, samples ", c, absent, 2, input, first)
+    let a = run(to, b"stepped, samples ", near, stepped, 2, input, first);
+    let b = run_two(to, a, two, 2, input, first, second);
+    let c = run(to, b"a step of 0, samples ", b, no_step, 2, input, first);
+    run(
+        to,
+        b"another type's form, samples ",
+        c,
+        absent,
+        2,
+        input,
+        first,
+    )
 }
 
 // The last sample, one more, and none.
-fn reach(near: Frame, stepped: RunForm, input: &[f32; BLOCK], output: &mut [f32; BLOCK]) -> Frame {
-    let a = run(b"stepped, samples ", near, stepped, 1, input, output);
-    let b = run(b"stepped, samples ", a, stepped, 1, input, output);
-    run(b"stepped, samples ", b, stepped, 0, input, output)
+fn reach(
+    to: Stdout,
+    near: Frame,
+    stepped: RunForm,
+    input: &[f32; BLOCK],
+    output: &mut [f32; BLOCK],
+) -> Frame {
+    let a = run(to, b"stepped, samples ", near, stepped, 1, input, output);
+    let b = run(to, b"stepped, samples ", a, stepped, 1, input, output);
+    run(to, b"stepped, samples ", b, stepped, 0, input, output)
 }
 
 // The last sample from the mark again: in two outputs, which count once, and in one.
 fn reach_again(
+    to: Stdout,
     full: Frame,
     forms: Forms,
     input: &[f32; BLOCK],
@@ -328,18 +370,27 @@ fn reach_again(
 ) -> Frame {
     let stepped = forms.stepped;
     let two = forms.two;
-    let a = run_two(back(full, 1), two, 1, input, first, second);
-    run(b"stepped, samples ", back(a, 1), stepped, 1, input, first)
+    let a = run_two(to, back(to, full, 1), two, 1, input, first, second);
+    run(
+        to,
+        b"stepped, samples ",
+        back(to, a, 1),
+        stepped,
+        1,
+        input,
+        first,
+    )
 }
 
-fn rest_and_load(full: Frame, entry: usize) {
+fn rest_and_load(to: Stdout, full: Frame, entry: usize) {
     let rested = full.rest(HEAD);
-    let told = say(b"rest of head ", HEAD, rested.number, rested.frame);
+    let told = say(to, b"rest of head ", HEAD, rested.number, rested.frame);
     let loaded = told.load(HEAD, entry);
-    say(b"load of entry ", entry, loaded.number, loaded.frame);
+    say(to, b"load of entry ", entry, loaded.number, loaded.frame);
 }
 
 fn try_limit(
+    to: Stdout,
     library: Frame,
     entry: usize,
     forms: Forms,
@@ -349,12 +400,17 @@ fn try_limit(
 ) {
     let stepped = forms.stepped;
     let near = go_over(
-        come_near(library, entry, forms, input, first),
+        to,
+        come_near(to, library, entry, forms, input, first),
         forms,
         input,
         first,
         second,
     );
-    let full = reach(near, stepped, input, first);
-    rest_and_load(reach_again(full, forms, input, first, second), entry);
+    let full = reach(to, near, stepped, input, first);
+    rest_and_load(
+        to,
+        reach_again(to, full, forms, input, first, second),
+        entry,
+    );
 }

@@ -8,6 +8,7 @@
 #![tactic(auto)]
 
 use calls::{Lengths, Settings};
+use std::io::{Read, Result};
 
 mod calls;
 mod record;
@@ -75,10 +76,9 @@ enum Found {
     End,
 }
 
-fn next_record() -> Found {
+fn next_record<F: Read>(from: &mut F) -> Found {
     let mut block = [0u8; 272];
-    let n = io::read_full(0, &mut block);
-    if n < 272 {
+    if from.read_exact(&mut block).is_err() {
         return Found::End;
     }
     let w = record::record(&block);
@@ -141,23 +141,21 @@ impl Counts {
     }
 }
 
-fn print(name: &[u8], n: u64) {
-    io::write_all(1, name);
-    io::print_decimal(1, n);
-    io::write_all(1, b"\n");
+fn print<R: Print>(rt: &R, name: &str, n: u64) -> Result<()> {
+    println!(rt; "{name}{n}")
 }
 
-fn report(counts: Counts) {
-    print(b"DcBlocker ok ", counts.dc_blocker);
-    print(b"OnePole ok ", counts.one_pole);
-    print(b"Svf ok ", counts.svf);
-    print(b"NaiveSvf ok ", counts.naive_svf);
-    print(b"ModifiedSvf ok ", counts.modified_svf);
-    print(b"CrossoverSvf ok ", counts.crossover_svf);
-    print(b"different ", counts.differ);
+fn report<R: Print>(rt: &R, counts: Counts) -> Result<()> {
+    print(rt, "DcBlocker ok ", counts.dc_blocker)?;
+    print(rt, "OnePole ok ", counts.one_pole)?;
+    print(rt, "Svf ok ", counts.svf)?;
+    print(rt, "NaiveSvf ok ", counts.naive_svf)?;
+    print(rt, "ModifiedSvf ok ", counts.modified_svf)?;
+    print(rt, "CrossoverSvf ok ", counts.crossover_svf)?;
+    print(rt, "different ", counts.differ)
 }
 
-fn replay() {
+fn replay<R: Print, F: Read>(rt: &R, from: &mut F) -> Result<()> {
     let mut counts = Counts {
         dc_blocker: 0,
         one_pole: 0,
@@ -169,13 +167,13 @@ fn replay() {
     };
     let mut left = MOST;
     while 0 < left {
-        match next_record() {
+        match next_record(from) {
             Found::Agrees(method) => {
                 counts = counts.agrees(method);
                 left -= 1;
             }
             Found::Differs(method) => {
-                print(b"differs: method ", wide(method));
+                print(rt, "differs: method ", wide(method))?;
                 counts = counts.differs();
                 left -= 1;
             }
@@ -184,11 +182,13 @@ fn replay() {
             }
         }
     }
-    report(counts);
+    report(rt, counts)
 }
 
-fn main() {
+// The first block is passed over. Where there is none, no record follows either.
+fn main(rt: HostRuntime) -> Result<()> {
+    let mut from = rt.stdin();
     let mut head = [0u8; 272];
-    io::read_full(0, &mut head);
-    replay();
+    let _ = from.read_exact(&mut head);
+    replay(&rt, &mut from)
 }

@@ -180,26 +180,38 @@ fn of_call(shape: usize, call: Call, now: Answered, line: &[u8], out: &mut [u8])
     }
 }
 
-fn bad_line(mut now: Answered, lines: usize, line: &[u8], out: &mut [u8]) -> Answered {
-    faults::bad_line(lines, line);
+fn bad_line(
+    rt: HostRuntime,
+    mut now: Answered,
+    lines: usize,
+    line: &[u8],
+    out: &mut [u8],
+) -> Answered {
+    faults::bad_line(rt, lines, line);
     let at = put_bad_line(out, now.at);
     now.at = at;
     now
 }
 
-fn long_line(mut now: Answered, lines: usize, out: &mut [u8]) -> Answered {
-    faults::long_line(lines);
+fn long_line(rt: HostRuntime, mut now: Answered, lines: usize, out: &mut [u8]) -> Answered {
+    faults::long_line(rt, lines);
     let at = put_long_line(out, now.at);
     now.at = at;
     now
 }
 
-fn of_line(mut now: Answered, lines: usize, line: &[u8], out: &mut [u8]) -> Answered {
+fn of_line(
+    rt: HostRuntime,
+    mut now: Answered,
+    lines: usize,
+    line: &[u8],
+    out: &mut [u8],
+) -> Answered {
     let call = call_text::call_of(line);
     let shape = shape_of(call);
     match shape {
         SILENT => now,
-        BAD_LINE => bad_line(now, lines, line, out),
+        BAD_LINE => bad_line(rt, now, lines, line, out),
         _ => {
             let at = put_keyword(line, out, now.at);
             now.at = at;
@@ -209,9 +221,15 @@ fn of_line(mut now: Answered, lines: usize, line: &[u8], out: &mut [u8]) -> Answ
 }
 
 // `lines` is the line's number.
-pub(crate) fn answer(now: Answered, lines: usize, line: &[u8], out: &mut [u8]) -> Answered {
+pub(crate) fn answer(
+    rt: HostRuntime,
+    now: Answered,
+    lines: usize,
+    line: &[u8],
+    out: &mut [u8],
+) -> Answered {
     if 65535 < line.len() {
-        return long_line(now, lines, out);
+        return long_line(rt, now, lines, out);
     }
-    of_line(now, lines, line, out)
+    of_line(rt, now, lines, line, out)
 }

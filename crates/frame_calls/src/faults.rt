@@ -3,7 +3,7 @@
 
 use crate::text::{keyword, number};
 use call_text::keyword::number_of;
-use libc::STDERR_FILENO;
+use std::io::Write;
 
 // `?` is no keyword, and so has the number behind the last.
 fn is_call(word: &[u8]) -> bool {
@@ -50,19 +50,19 @@ fn put_place(lines: usize, out: &mut [u8]) -> usize {
     digits::put(b": ", out, b)
 }
 
-fn say(text: &[u8], at: usize) {
+fn say(rt: HostRuntime, text: &[u8], at: usize) {
     let n = streams::within(at, text);
-    libc::write(STDERR_FILENO, &text[..n]);
+    let _ = rt.stderr().write(&text[..n]);
 }
 
-pub(crate) fn bad_line(lines: usize, line: &[u8]) {
+pub(crate) fn bad_line(rt: HostRuntime, lines: usize, line: &[u8]) {
     let mut text = [0u8; 160];
     let a = put_place(lines, &mut text);
     let b = put_fault(line, &mut text, a);
-    say(&text, b);
+    say(rt, &text, b);
 }
 
-pub(crate) fn long_line(lines: usize) {
+pub(crate) fn long_line(rt: HostRuntime, lines: usize) {
     let mut text = [0u8; 160];
     let a = put_place(lines, &mut text);
     let b = digits::put(
@@ -70,5 +70,5 @@ pub(crate) fn long_line(lines: usize) {
         &mut text,
         a,
     );
-    say(&text, b);
+    say(rt, &text, b);
 }

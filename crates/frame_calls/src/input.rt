@@ -4,7 +4,7 @@ use crate::answers::{Answered, answer};
 use crate::output::{send, send_if, send_if_enough};
 use crate::{faults, text};
 use frame::Frame;
-use libc::STDIN_FILENO;
+use std::io::Error;
 
 // A line may have so many bytes.
 const LONGEST: usize = 65535;
@@ -36,11 +36,11 @@ struct Taken {
     going: bool,
 }
 
-// How many bytes there are after a read.
+// How many bytes there are after a read, and why it failed, if it did.
 #[derive(Clone, Copy)]
 struct Filled {
     end: usize,
-    failed: bool,
+    failed: Option<Error>,
 }
 
 // The count of lines stays at the greatest number, if a run should ever come there.
@@ -56,7 +56,7 @@ fn lines_begin(text: &[u8], skipping: bool) -> Start {
             skipping: false,
         };
     }
-    let end = bytes::scan::find(text, 0, text.len(), b'\n');
+    let end = scan::find(text, 0, b'\n');
     if end == text.len() {
         return Start {
             from: end,
@@ -70,22 +70,22 @@ fn lines_begin(text: &[u8], skipping: bool) -> Start {
 }
 
 // Answers every whole line of the text from the start on, as long as the output takes the answers.
-fn take_lines(state: State, start: Start, text: &[u8], out: &mut [u8]) -> Taken {
+fn take_lines(rt: HostRuntime, state: State, start: Start, text: &[u8], out: &mut [u8]) -> Taken {
     let frame = state.frame;
     let mut now = Answered { frame, at: 0 };
     let mut lines = state.lines;
     let mut going = true;
     let mut from = start.from;
     while from < text.len() && going {
-        let end = bytes::scan::find(text, from, text.len(), b'\n');
+        let end = scan::find(text, from, b'\n');
         if end == text.len() {
             break;
         }
         let line = &text[from..end];
         from = end + 1;
         lines = one_more(lines);
-        now = answer(now, lines, line, out);
-        let sent = send_if_enough(out, now.at);
+        now = answer(rt, now, lines, line, out);
+        let sent = send_if_enough(rt, out, now.at);
         now.at = sent.at;
         going = sent.going;
     }
@@ -95,19 +95,19 @@ fn take_lines(state: State, start: Start, text: &[u8], out: &mut [u8]) -> Taken 
         lines,
         used: from,
         skipping: start.skipping,
-        going: send_if(going, out, now.at),
+        going: send_if(rt, going, out, now.at),
     }
 }
 
 // Reads once behind what is held.
-fn fill(buffer: &mut [u8], held: usize) -> Filled {
+fn fill(rt: HostRuntime, buffer: &mut [u8], held: usize) -> Filled {
     if buffer.len() <= held {
         return Filled {
             end: held,
-            failed: false,
+            failed: None,
         };
     }
-    let got = streams::read(STDIN_FILENO, &mut buffer[held..]);
+    let got = streams::read(&mut rt.stdin(), &rt, &mut buffer[held..]);
     Filled {
         end: held + got.count,
         failed: got.failed,
@@ -144,27 +144,27 @@ fn stopped(state: State) -> State {
 }
 
 // The input has ended. The last line may lack its line feed.
-fn last(state: State, buffer: &[u8], out: &mut [u8]) -> State {
+fn last(rt: HostRuntime, state: State, buffer: &[u8], out: &mut [u8]) -> State {
     let frame = state.frame;
     let n = streams::within(state.held, buffer);
     let now = Answered { frame, at: 0 };
-    let answered = answer(now, one_more(state.lines), &buffer[..n], out);
-    send(out, answered.at);
+    let answered = answer(rt, now, one_more(state.lines), &buffer[..n], out);
+    send(rt, out, answered.at);
     stopped(state)
 }
 
 // A line was too long before its end came. Answers whether the output takes more.
-fn say_long(going: bool, lines: usize, out: &mut [u8]) -> bool {
+fn say_long(rt: HostRuntime, going: bool, lines: usize, out: &mut [u8]) -> bool {
     if !going {
         return false;
     }
-    faults::long_line(lines);
+    faults::long_line(rt, lines);
     let at = text::put_long_line(out, 0);
-    send(out, at)
+    send(rt, out, at)
 }
 
 // What is held after the lines of a read, `kept` bytes of the last. That line may be too long already.
-fn hold(taken: Taken, kept: usize, out: &mut [u8]) -> State {
+fn hold(rt: HostRuntime, taken: Taken, kept: usize, out: &mut [u8]) -> State {
     let frame = taken.frame;
     if LONGEST < kept {
         let lines = one_more(taken.lines);
@@ -173,7 +173,7 @@ fn hold(taken: Taken, kept: usize, out: &mut [u8]) -> State {
             lines,
             held: 0,
             skipping: true,
-            going: say_long(taken.going, lines, out),
+            going: say_long(rt, taken.going, lines, out),
         };
     }
     State {
@@ -186,29 +186,29 @@ fn hold(taken: Taken, kept: usize, out: &mut [u8]) -> State {
 }
 
 // Answers the lines that are whole of the buffer's first bytes, up to `end`, and holds the rest.
-fn take(state: State, end: usize, buffer: &mut [u8], out: &mut [u8]) -> State {
+fn take(rt: HostRuntime, state: State, end: usize, buffer: &mut [u8], out: &mut [u8]) -> State {
     let n = streams::within(end, buffer);
     let start = lines_begin(&buffer[..n], state.skipping);
-    let taken = take_lines(state, start, &buffer[..n], out);
+    let taken = take_lines(rt, state, start, &buffer[..n], out);
     let kept = keep(buffer, taken.used, n);
-    hold(taken, kept, out)
+    hold(rt, taken, kept, out)
 }
 
 // Reads once, and answers what there is then. A line that a failed read cuts off gets no answer.
-fn step(state: State, buffer: &mut [u8], out: &mut [u8]) -> State {
-    let filled = fill(buffer, state.held);
-    if filled.failed {
-        os::fail(b"frame_calls: cannot read the calls");
+fn step(rt: HostRuntime, state: State, buffer: &mut [u8], out: &mut [u8]) -> State {
+    let filled = fill(rt, buffer, state.held);
+    if let Some(error) = filled.failed {
+        let _ = eprintln!(rt; "frame_calls: cannot read the calls: {error}");
         return stopped(state);
     }
     if filled.end == state.held {
-        return last(state, buffer, out);
+        return last(rt, state, buffer, out);
     }
-    take(state, filled.end, buffer, out)
+    take(rt, state, filled.end, buffer, out)
 }
 
 // A proved loop has to end, and nothing says that the input does. So the loop counts its turns down, from a number that no run uses up.
-pub(crate) fn serve(buffer: &mut [u8], out: &mut [u8]) {
+pub(crate) fn serve(rt: HostRuntime, buffer: &mut [u8], out: &mut [u8]) {
     let mut state = State {
         frame: Frame::fresh(),
         lines: 0,
@@ -218,7 +218,7 @@ pub(crate) fn serve(buffer: &mut [u8], out: &mut [u8]) {
     };
     let mut turns = u64::MAX;
     while turns > 0 && state.going {
-        state = step(state, buffer, out);
+        state = step(rt, state, buffer, out);
         turns -= 1;
     }
 }

@@ -12,14 +12,25 @@ mod samples;
 mod shown;
 mod text;
 
+use std::env::{Env, FillError};
+
+// Whether the program was started with an argument behind its name, of whatever bytes.
+fn has_argument(rt: HostRuntime) -> bool {
+    let mut first = [0u8; 1];
+    match rt.arg(1, &mut first) {
+        Err(FillError::NotPresent) => false,
+        _ => true,
+    }
+}
+
 // The input has room for a line of the greatest length and its line feed, the output for the answers that wait and one more, the longest of
 // which takes less than 32,768 bytes.
-fn main() {
-    if os::arg_count() > 1 {
-        help::print();
+fn main(rt: HostRuntime) {
+    if has_argument(rt) {
+        help::print(rt);
         return;
     }
     let mut buffer = [0u8; 65536];
     let mut out = [0u8; 40960];
-    input::serve(&mut buffer, &mut out);
+    input::serve(rt, &mut buffer, &mut out);
 }

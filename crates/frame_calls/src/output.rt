@@ -1,7 +1,5 @@
 // The answers on their way out.
 
-use libc::STDOUT_FILENO;
-
 // Answers are written once they take so many bytes.
 const ENOUGH: usize = 8192;
 
@@ -13,25 +11,26 @@ pub(crate) struct Sent {
 }
 
 // Writes the answers up to `at`, or says why that cannot be done.
-pub(crate) fn send(out: &[u8], at: usize) -> bool {
+pub(crate) fn send(rt: HostRuntime, out: &[u8], at: usize) -> bool {
     let n = streams::within(at, out);
-    if streams::write(STDOUT_FILENO, &out[..n]) < n {
-        os::fail(b"frame_calls: cannot write the answers");
+    let put = streams::write(&mut rt.stdout(), &rt, &out[..n]);
+    if let Some(error) = put.failed {
+        let _ = eprintln!(rt; "frame_calls: cannot write the answers: {error}");
         return false;
     }
     true
 }
 
-pub(crate) fn send_if(going: bool, out: &[u8], at: usize) -> bool {
-    if going { send(out, at) } else { false }
+pub(crate) fn send_if(rt: HostRuntime, going: bool, out: &[u8], at: usize) -> bool {
+    if going { send(rt, out, at) } else { false }
 }
 
-pub(crate) fn send_if_enough(out: &[u8], at: usize) -> Sent {
+pub(crate) fn send_if_enough(rt: HostRuntime, out: &[u8], at: usize) -> Sent {
     if at < ENOUGH {
         return Sent { at, going: true };
     }
     Sent {
         at: 0,
-        going: send(out, at),
+        going: send(rt, out, at),
     }
 }

@@ -13,7 +13,7 @@ pub(crate) fn number(n: usize, out: &mut [u8], at: usize) -> usize {
 }
 
 pub(crate) fn keyword(line: &[u8]) -> &[u8] {
-    let end = bytes::scan::find(line, 0, line.len(), b' ');
+    let end = scan::find(line, 0, b' ');
     &line[0..end]
 }
 

@@ -3,7 +3,8 @@
 #![tactic(auto)]
 
 use filter_core::{FilterMode, FrequencyApproximation};
-use libc::STDOUT_FILENO;
+use std::io::writer;
+use std::time::Clock;
 use svf::Svf;
 
 // A jagged leaf, whose last point is followed by its first.
@@ -15,7 +16,7 @@ const LEAF_Y: [f32; 16] = [
     0.0, 1.0, 0.5, 1.75, 1.25, 2.5, 1.5, 1.25, 0.0, -1.25, -1.5, -2.5, -1.25, -1.75, -0.5, -1.0,
 ];
 
-fn main() {
+fn main(rt: HostRuntime) {
     let x = LEAF_X;
     let y = LEAF_Y;
     let mut smooth_x = [0.0f32; 16];
@@ -25,14 +26,15 @@ fn main() {
     let mut text = [0u8; 2048];
     let at = put_heading(&mut text);
     let end = put_points(&x, &y, &smooth_x, &smooth_y, &mut text, at);
-    print(&text, end);
+    print(&rt, &text, end);
 }
 
 // The text goes out by one write, or standard error says why it does not.
-fn print(text: &[u8], end: usize) {
+fn print<R: Print + Eprint + Clock>(rt: &R, text: &[u8], end: usize) {
     let n = streams::within(end, text);
-    if streams::write(STDOUT_FILENO, &text[..n]) < n {
-        os::fail(b"outline: cannot write the points");
+    let put = streams::write(&mut writer(rt), rt, &text[..n]);
+    if let Some(error) = put.failed {
+        let _ = eprintln!(rt; "outline: cannot write the points: {error}");
     }
 }
 
