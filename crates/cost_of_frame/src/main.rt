@@ -4,6 +4,7 @@
 // and answers how many nanoseconds the runs took, the eight numbers of the filter and the outputs, a word each. The byte 1 has the outputs
 // cleared before, outside of the time; else they are what the runs before wrote. Where the length of a run is 0, there is no head: the
 // filter is called once, with all samples.
+
 #![tactic(auto)]
 
 ghost use Rattle.std.specs.Prelude.{◌<◌, ◌≤◌};

@@ -4,6 +4,7 @@
 // of each output, which is lent as 40e00000. Of the runs of every length with 100 samples left, two lines say how many of those that fit were
 // answered 0, and how many of the others 18.
 // The file `stdout` has what the source's Rust makes of the same calls (`tools/histories --limit`).
+
 #![tactic(auto)]
 
 ghost use Rattle.digits.specs.Place.{Counts};

@@ -5,6 +5,7 @@
 // words, low byte first:
 //   0 method, 1 and 2 modes or approximation, 3 and 4 step (low word first), 5 to 7 numbers, 8 to 10 lengths of the input and of two outputs,
 //   11 refusal, 12 state (8 words), 20 input, 28 and 36 outputs before the call, 44 state after it, 52 and 60 outputs after it.
+
 #![tactic(auto)]
 
 use calls::{Lengths, Settings};

@@ -1,5 +1,6 @@
 // Smooths the outline of a motif. Each coordinate goes through a low-pass filter of its own; a line is printed for each point, as it was
 // drawn, as it became and how far it moved, in thousandths.
+
 #![tactic(auto)]
 
 use filter_core::{FilterMode, FrequencyApproximation};
