@@ -1,4 +1,4 @@
-//! The exported functions of crates/filter_exports. Where a reference of Rattle is lent, the pointer is not null, is aligned, and is
+//! The exported functions of crates/filter_exports_c. Where a reference of Rattle is lent, the pointer is not null, is aligned, and is
 //! lent to nothing else that is written; a slice is a pointer and a length. The functions keep no pointer.
 
 extern "C" {

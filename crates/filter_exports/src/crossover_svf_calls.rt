@@ -10,29 +10,25 @@ ghost use Rattle.filter_exports.specs.Calls.{Runs};
 use crate::{LAST_MODE, UNKNOWN};
 use crossover_svf::CrossoverSvf;
 
-#[unsafe(no_mangle)]
-pub extern "C" fn crossover_svf_new(state: &mut [f32; 8])
+pub fn crossover_svf_new(state: &mut [f32; 8])
     ensures { state.new ≡ crossover_fields crossover_new }
 {
     *state = filter_fields::crossover_svf_fields(CrossoverSvf::new());
 }
 
-#[unsafe(no_mangle)]
-pub extern "C" fn crossover_svf_init(state: &mut [f32; 8])
+pub fn crossover_svf_init(state: &mut [f32; 8])
     ensures { state.new ≡ crossover_fields (crossover_init (crossover_from state.old)) }
 {
     *state = filter_fields::crossover_svf_fields(filter_fields::crossover_svf_from(state).init());
 }
 
-#[unsafe(no_mangle)]
-pub extern "C" fn crossover_svf_reset(state: &mut [f32; 8])
+pub fn crossover_svf_reset(state: &mut [f32; 8])
     ensures { state.new ≡ crossover_fields (crossover_reset (crossover_from state.old)) }
 {
     *state = filter_fields::crossover_svf_fields(filter_fields::crossover_svf_from(state).reset());
 }
 
-#[unsafe(no_mangle)]
-pub extern "C" fn crossover_svf_set_f_fq(state: &mut [f32; 8], f: f32, fq: f32)
+pub fn crossover_svf_set_f_fq(state: &mut [f32; 8], f: f32, fq: f32)
     ensures { state.new ≡ crossover_fields (crossover_set_f_fq (crossover_from state.old) f fq) }
 {
     *state = filter_fields::crossover_svf_fields(filter_fields::crossover_svf_from(state).set_f_fq(
@@ -41,13 +37,7 @@ pub extern "C" fn crossover_svf_set_f_fq(state: &mut [f32; 8], f: f32, fq: f32)
 }
 
 // Refused with UNKNOWN.
-#[unsafe(no_mangle)]
-pub extern "C" fn crossover_svf_process(
-    state: &mut [f32; 8],
-    in_: &[f32],
-    out: &mut [f32],
-    mode: u32,
-) -> u8
+pub fn crossover_svf_process(state: &mut [f32; 8], in_: &[f32], out: &mut [f32], mode: u32) -> u8
     ensures { Runs crossover_from crossover_fields (unknown_refusal last_mode mode) (each (crossover_next (mode_of mode))) (puts (crossover_out (mode_of mode)))
         state.old (within in_.now out.old) out.old result state.new out.new }
 {

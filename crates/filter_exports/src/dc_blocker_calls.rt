@@ -8,22 +8,19 @@ ghost use Rattle.filter_exports.specs.Calls.{Filters};
 
 use dc_blocker::DcBlocker;
 
-#[unsafe(no_mangle)]
-pub extern "C" fn dc_blocker_new(state: &mut [f32; 3])
+pub fn dc_blocker_new(state: &mut [f32; 3])
     ensures { state.new ≡ dc_fields dc_new }
 {
     *state = filter_fields::dc_blocker_fields(DcBlocker::new());
 }
 
-#[unsafe(no_mangle)]
-pub extern "C" fn dc_blocker_init(state: &mut [f32; 3], pole: f32)
+pub fn dc_blocker_init(state: &mut [f32; 3], pole: f32)
     ensures { state.new ≡ dc_fields (dc_init (dc_from state.old) pole) }
 {
     *state = filter_fields::dc_blocker_fields(filter_fields::dc_blocker_from(state).init(pole));
 }
 
-#[unsafe(no_mangle)]
-pub extern "C" fn dc_blocker_process(state: &mut [f32; 3], in_out: &mut [f32])
+pub fn dc_blocker_process(state: &mut [f32; 3], in_out: &mut [f32])
     ensures { Filters dc_from dc_fields (each dc_next) (puts dc_out)
         state.old in_out.old in_out.old state.new in_out.new }
 {

@@ -10,29 +10,25 @@ ghost use Rattle.filter_exports.specs.Calls.{Runs};
 use crate::{LAST_MODE, UNKNOWN};
 use modified_svf::ModifiedSvf;
 
-#[unsafe(no_mangle)]
-pub extern "C" fn modified_svf_new(state: &mut [f32; 5])
+pub fn modified_svf_new(state: &mut [f32; 5])
     ensures { state.new ≡ modified_fields modified_new }
 {
     *state = filter_fields::modified_svf_fields(ModifiedSvf::new());
 }
 
-#[unsafe(no_mangle)]
-pub extern "C" fn modified_svf_init(state: &mut [f32; 5])
+pub fn modified_svf_init(state: &mut [f32; 5])
     ensures { state.new ≡ modified_fields (modified_init (modified_from state.old)) }
 {
     *state = filter_fields::modified_svf_fields(filter_fields::modified_svf_from(state).init());
 }
 
-#[unsafe(no_mangle)]
-pub extern "C" fn modified_svf_reset(state: &mut [f32; 5])
+pub fn modified_svf_reset(state: &mut [f32; 5])
     ensures { state.new ≡ modified_fields (modified_reset (modified_from state.old)) }
 {
     *state = filter_fields::modified_svf_fields(filter_fields::modified_svf_from(state).reset());
 }
 
-#[unsafe(no_mangle)]
-pub extern "C" fn modified_svf_set_f_fq(state: &mut [f32; 5], f: f32, fq: f32)
+pub fn modified_svf_set_f_fq(state: &mut [f32; 5], f: f32, fq: f32)
     ensures { state.new ≡ modified_fields (modified_set_f_fq (modified_from state.old) f fq) }
 {
     *state = filter_fields::modified_svf_fields(filter_fields::modified_svf_from(state).set_f_fq(
@@ -41,13 +37,7 @@ pub extern "C" fn modified_svf_set_f_fq(state: &mut [f32; 5], f: f32, fq: f32)
 }
 
 // Refused with UNKNOWN.
-#[unsafe(no_mangle)]
-pub extern "C" fn modified_svf_process(
-    state: &mut [f32; 5],
-    in_: &[f32],
-    out: &mut [f32],
-    mode: u32,
-) -> u8
+pub fn modified_svf_process(state: &mut [f32; 5], in_: &[f32], out: &mut [f32], mode: u32) -> u8
     ensures { Runs modified_from modified_fields (unknown_refusal last_mode mode) (each (modified_next (mode_of mode))) (puts (modified_out (mode_of mode)))
         state.old (within in_.now out.old) out.old result state.new out.new }
 {

@@ -12,35 +12,26 @@ ghost use Rattle.filter_exports.specs.Calls.{Sets, Answers, Runs, Filters};
 use crate::{LAST_APPROXIMATION, LAST_MODE, UNKNOWN};
 use naive_svf::NaiveSvf;
 
-#[unsafe(no_mangle)]
-pub extern "C" fn naive_svf_new(state: &mut [f32; 4])
+pub fn naive_svf_new(state: &mut [f32; 4])
     ensures { state.new ≡ naive_fields naive_new }
 {
     *state = filter_fields::naive_svf_fields(NaiveSvf::new());
 }
 
-#[unsafe(no_mangle)]
-pub extern "C" fn naive_svf_init(state: &mut [f32; 4])
+pub fn naive_svf_init(state: &mut [f32; 4])
     ensures { state.new ≡ naive_fields (naive_init (naive_from state.old)) }
 {
     *state = filter_fields::naive_svf_fields(filter_fields::naive_svf_from(state).init());
 }
 
-#[unsafe(no_mangle)]
-pub extern "C" fn naive_svf_reset(state: &mut [f32; 4])
+pub fn naive_svf_reset(state: &mut [f32; 4])
     ensures { state.new ≡ naive_fields (naive_reset (naive_from state.old)) }
 {
     *state = filter_fields::naive_svf_fields(filter_fields::naive_svf_from(state).reset());
 }
 
 // Refused with UNKNOWN, then with 11 where Exact gets an f below -0.497.
-#[unsafe(no_mangle)]
-pub extern "C" fn naive_svf_set_f_q(
-    state: &mut [f32; 4],
-    f: f32,
-    resonance: f32,
-    approximation: u32,
-) -> u8
+pub fn naive_svf_set_f_q(state: &mut [f32; 4], f: f32, resonance: f32, approximation: u32) -> u8
     ensures { Sets (unknown_refusal last_approximation approximation then frequency_refusal f (approximation_of approximation))
         state.old (naive_fields (naive_set_f_q (naive_from state.old) f resonance (approximation_of approximation))) result state.new }
 {
@@ -59,23 +50,20 @@ pub extern "C" fn naive_svf_set_f_q(
     0
 }
 
-#[unsafe(no_mangle)]
-pub extern "C" fn naive_svf_lp(state: &[f32; 4]) -> f32
+pub fn naive_svf_lp(state: &[f32; 4]) -> f32
     ensures { result ≡ (naive_from state.now).lp }
 {
     filter_fields::naive_svf_from(state).lp()
 }
 
-#[unsafe(no_mangle)]
-pub extern "C" fn naive_svf_bp(state: &[f32; 4]) -> f32
+pub fn naive_svf_bp(state: &[f32; 4]) -> f32
     ensures { result ≡ (naive_from state.now).bp }
 {
     filter_fields::naive_svf_from(state).bp()
 }
 
 // Refused with UNKNOWN, as each call below that takes a mode.
-#[unsafe(no_mangle)]
-pub extern "C" fn naive_svf_process(state: &mut [f32; 4], in_: f32, mode: u32, out: &mut f32) -> u8
+pub fn naive_svf_process(state: &mut [f32; 4], in_: f32, mode: u32, out: &mut f32) -> u8
     ensures { Answers (unknown_refusal last_mode mode) state.old (naive_fields (naive_next (naive_from state.old) in_))
         out.old (naive_out (mode_of mode) (naive_from state.old) in_) result state.new out.new }
 {
@@ -88,13 +76,7 @@ pub extern "C" fn naive_svf_process(state: &mut [f32; 4], in_: f32, mode: u32, o
     0
 }
 
-#[unsafe(no_mangle)]
-pub extern "C" fn naive_svf_process_buffer(
-    state: &mut [f32; 4],
-    in_: &[f32],
-    out: &mut [f32],
-    mode: u32,
-) -> u8
+pub fn naive_svf_process_buffer(state: &mut [f32; 4], in_: &[f32], out: &mut [f32], mode: u32) -> u8
     ensures { Runs naive_from naive_fields (unknown_refusal last_mode mode) (each naive_next) (puts (naive_out (mode_of mode)))
         state.old (within in_.now out.old) out.old result state.new out.new }
 {
@@ -110,13 +92,7 @@ pub extern "C" fn naive_svf_process_buffer(
     0
 }
 
-#[unsafe(no_mangle)]
-pub extern "C" fn naive_svf_split(
-    state: &mut [f32; 4],
-    in_: &[f32],
-    low: &mut [f32],
-    high: &mut [f32],
-)
+pub fn naive_svf_split(state: &mut [f32; 4], in_: &[f32], low: &mut [f32], high: &mut [f32])
     ensures lows { Filters naive_from naive_fields (each naive_next) (puts naive_low) state.old
         (within (within in_.now low.old) high.old) low.old state.new low.new }
     ensures highs { Filters naive_from naive_fields (each naive_next) (puts naive_high) state.old
@@ -128,8 +104,7 @@ pub extern "C" fn naive_svf_split(
 }
 
 // Refused with UNKNOWN, then with 10 where decimate is 0.
-#[unsafe(no_mangle)]
-pub extern "C" fn naive_svf_process_decimate(
+pub fn naive_svf_process_decimate(
     state: &mut [f32; 4],
     in_: &[f32],
     out: &mut [f32],

@@ -12,30 +12,26 @@ ghost use Rattle.filter_exports.specs.Calls.{Gives, Sets, Answers};
 use crate::{LAST_APPROXIMATION, LAST_MODE, UNKNOWN};
 use one_pole::OnePole;
 
-#[unsafe(no_mangle)]
-pub extern "C" fn one_pole_new(state: &mut [f32; 3])
+pub fn one_pole_new(state: &mut [f32; 3])
     ensures { state.new ≡ one_pole_fields one_pole_new }
 {
     *state = filter_fields::one_pole_fields(OnePole::new());
 }
 
-#[unsafe(no_mangle)]
-pub extern "C" fn one_pole_init(state: &mut [f32; 3])
+pub fn one_pole_init(state: &mut [f32; 3])
     ensures { state.new ≡ one_pole_fields (one_pole_init (one_pole_from state.old)) }
 {
     *state = filter_fields::one_pole_fields(filter_fields::one_pole_from(state).init());
 }
 
-#[unsafe(no_mangle)]
-pub extern "C" fn one_pole_reset(state: &mut [f32; 3])
+pub fn one_pole_reset(state: &mut [f32; 3])
     ensures { state.new ≡ one_pole_fields (one_pole_reset (one_pole_from state.old)) }
 {
     *state = filter_fields::one_pole_fields(filter_fields::one_pole_from(state).reset());
 }
 
 // Refused with UNKNOWN, then with 11 where Exact gets an f below -0.497.
-#[unsafe(no_mangle)]
-pub extern "C" fn one_pole_tan(f: f32, approximation: u32, value: &mut f32) -> u8
+pub fn one_pole_tan(f: f32, approximation: u32, value: &mut f32) -> u8
     ensures { Gives (unknown_refusal last_approximation approximation then frequency_refusal f (approximation_of approximation))
         value.old (tan_of f (approximation_of approximation)) result value.new }
 {
@@ -51,8 +47,7 @@ pub extern "C" fn one_pole_tan(f: f32, approximation: u32, value: &mut f32) -> u
 }
 
 // Refused as one_pole_tan is.
-#[unsafe(no_mangle)]
-pub extern "C" fn one_pole_set_f(state: &mut [f32; 3], f: f32, approximation: u32) -> u8
+pub fn one_pole_set_f(state: &mut [f32; 3], f: f32, approximation: u32) -> u8
     ensures { Sets (unknown_refusal last_approximation approximation then frequency_refusal f (approximation_of approximation))
         state.old (one_pole_fields (one_pole_set_f (one_pole_from state.old) f (approximation_of approximation))) result state.new }
 {
@@ -71,8 +66,7 @@ pub extern "C" fn one_pole_set_f(state: &mut [f32; 3], f: f32, approximation: u3
 }
 
 // Refused with UNKNOWN.
-#[unsafe(no_mangle)]
-pub extern "C" fn one_pole_process(state: &mut [f32; 3], in_: f32, mode: u32, out: &mut f32) -> u8
+pub fn one_pole_process(state: &mut [f32; 3], in_: f32, mode: u32, out: &mut f32) -> u8
     ensures { Answers (unknown_refusal last_mode mode) state.old (one_pole_fields (one_pole_next (one_pole_from state.old) in_))
         out.old (one_pole_out (mode_of mode) (one_pole_from state.old) in_) result state.new out.new }
 {

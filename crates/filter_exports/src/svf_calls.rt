@@ -13,29 +13,25 @@ ghost use Rattle.filter_exports.specs.Calls.{Sets, Answers, Runs, Filters};
 use crate::{LAST_APPROXIMATION, LAST_MODE, UNKNOWN};
 use svf::Svf;
 
-#[unsafe(no_mangle)]
-pub extern "C" fn svf_new(state: &mut [f32; 5])
+pub fn svf_new(state: &mut [f32; 5])
     ensures { state.new ≡ svf_fields svf_new }
 {
     *state = filter_fields::svf_fields(Svf::new());
 }
 
-#[unsafe(no_mangle)]
-pub extern "C" fn svf_init(state: &mut [f32; 5])
+pub fn svf_init(state: &mut [f32; 5])
     ensures { state.new ≡ svf_fields (svf_init (svf_from state.old)) }
 {
     *state = filter_fields::svf_fields(filter_fields::svf_from(state).init());
 }
 
-#[unsafe(no_mangle)]
-pub extern "C" fn svf_reset(state: &mut [f32; 5])
+pub fn svf_reset(state: &mut [f32; 5])
     ensures { state.new ≡ svf_fields (svf_reset (svf_from state.old)) }
 {
     *state = filter_fields::svf_fields(filter_fields::svf_from(state).reset());
 }
 
-#[unsafe(no_mangle)]
-pub extern "C" fn svf_set(state: &mut [f32; 5], other: &[f32; 5])
+pub fn svf_set(state: &mut [f32; 5], other: &[f32; 5])
     ensures { state.new ≡ svf_fields (svf_set (svf_from state.old) (svf_from other.now)) }
 {
     *state = filter_fields::svf_fields(filter_fields::svf_from(state).set(filter_fields::svf_from(
@@ -43,35 +39,26 @@ pub extern "C" fn svf_set(state: &mut [f32; 5], other: &[f32; 5])
     )));
 }
 
-#[unsafe(no_mangle)]
-pub extern "C" fn svf_set_g_r_h(state: &mut [f32; 5], g: f32, r: f32, h: f32)
+pub fn svf_set_g_r_h(state: &mut [f32; 5], g: f32, r: f32, h: f32)
     ensures { state.new ≡ svf_fields (svf_set_g_r_h (svf_from state.old) g r h) }
 {
     *state = filter_fields::svf_fields(filter_fields::svf_from(state).set_g_r_h(g, r, h));
 }
 
-#[unsafe(no_mangle)]
-pub extern "C" fn svf_set_g_r(state: &mut [f32; 5], g: f32, r: f32)
+pub fn svf_set_g_r(state: &mut [f32; 5], g: f32, r: f32)
     ensures { state.new ≡ svf_fields (svf_set_g_r (svf_from state.old) g r) }
 {
     *state = filter_fields::svf_fields(filter_fields::svf_from(state).set_g_r(g, r));
 }
 
-#[unsafe(no_mangle)]
-pub extern "C" fn svf_set_g_q(state: &mut [f32; 5], g: f32, resonance: f32)
+pub fn svf_set_g_q(state: &mut [f32; 5], g: f32, resonance: f32)
     ensures { state.new ≡ svf_fields (svf_set_g_q (svf_from state.old) g resonance) }
 {
     *state = filter_fields::svf_fields(filter_fields::svf_from(state).set_g_q(g, resonance));
 }
 
 // Refused with UNKNOWN, then with 11 where Exact gets an f below -0.497.
-#[unsafe(no_mangle)]
-pub extern "C" fn svf_set_f_q(
-    state: &mut [f32; 5],
-    f: f32,
-    resonance: f32,
-    approximation: u32,
-) -> u8
+pub fn svf_set_f_q(state: &mut [f32; 5], f: f32, resonance: f32, approximation: u32) -> u8
     ensures { Sets (unknown_refusal last_approximation approximation then frequency_refusal f (approximation_of approximation))
         state.old (svf_fields (svf_set_f_q (svf_from state.old) f resonance (approximation_of approximation))) result state.new }
 {
@@ -90,30 +77,26 @@ pub extern "C" fn svf_set_f_q(
     0
 }
 
-#[unsafe(no_mangle)]
-pub extern "C" fn svf_g(state: &[f32; 5]) -> f32
+pub fn svf_g(state: &[f32; 5]) -> f32
     ensures { result ≡ (svf_from state.now).g }
 {
     filter_fields::svf_from(state).g()
 }
 
-#[unsafe(no_mangle)]
-pub extern "C" fn svf_r(state: &[f32; 5]) -> f32
+pub fn svf_r(state: &[f32; 5]) -> f32
     ensures { result ≡ (svf_from state.now).r }
 {
     filter_fields::svf_from(state).r()
 }
 
-#[unsafe(no_mangle)]
-pub extern "C" fn svf_h(state: &[f32; 5]) -> f32
+pub fn svf_h(state: &[f32; 5]) -> f32
     ensures { result ≡ (svf_from state.now).h }
 {
     filter_fields::svf_from(state).h()
 }
 
 // Refused with UNKNOWN, as each call below that takes a mode.
-#[unsafe(no_mangle)]
-pub extern "C" fn svf_process(state: &mut [f32; 5], in_: f32, mode: u32, out: &mut f32) -> u8
+pub fn svf_process(state: &mut [f32; 5], in_: f32, mode: u32, out: &mut f32) -> u8
     ensures { Answers (unknown_refusal last_mode mode) state.old (svf_fields (svf_next (svf_from state.old) in_))
         out.old (svf_out (mode_of mode) (svf_from state.old) in_) result state.new out.new }
 {
@@ -126,8 +109,7 @@ pub extern "C" fn svf_process(state: &mut [f32; 5], in_: f32, mode: u32, out: &m
     0
 }
 
-#[unsafe(no_mangle)]
-pub extern "C" fn svf_process_dual(
+pub fn svf_process_dual(
     state: &mut [f32; 5],
     in_: f32,
     out_1: &mut f32,
@@ -157,13 +139,7 @@ pub extern "C" fn svf_process_dual(
     0
 }
 
-#[unsafe(no_mangle)]
-pub extern "C" fn svf_process_buffer(
-    state: &mut [f32; 5],
-    in_: &[f32],
-    out: &mut [f32],
-    mode: u32,
-) -> u8
+pub fn svf_process_buffer(state: &mut [f32; 5], in_: &[f32], out: &mut [f32], mode: u32) -> u8
     ensures { Runs svf_from svf_fields (unknown_refusal last_mode mode) (each svf_next) (puts (svf_out (mode_of mode)))
         state.old (within in_.now out.old) out.old result state.new out.new }
 {
@@ -176,8 +152,7 @@ pub extern "C" fn svf_process_buffer(
 }
 
 // The output is overwritten, and nothing is added, as the source does.
-#[unsafe(no_mangle)]
-pub extern "C" fn svf_process_add_buffer(
+pub fn svf_process_add_buffer(
     state: &mut [f32; 5],
     in_: &[f32],
     out: &mut [f32],
@@ -201,8 +176,7 @@ pub extern "C" fn svf_process_add_buffer(
 }
 
 // Refused with UNKNOWN, then with 10 where the stride is 0.
-#[unsafe(no_mangle)]
-pub extern "C" fn svf_process_stride_buffer(
+pub fn svf_process_stride_buffer(
     state: &mut [f32; 5],
     in_: &[f32],
     out: &mut [f32],
@@ -228,13 +202,7 @@ pub extern "C" fn svf_process_stride_buffer(
     0
 }
 
-#[unsafe(no_mangle)]
-pub extern "C" fn svf_process_multimode_buffer(
-    state: &mut [f32; 5],
-    in_: &[f32],
-    out: &mut [f32],
-    mode: f32,
-)
+pub fn svf_process_multimode_buffer(state: &mut [f32; 5], in_: &[f32], out: &mut [f32], mode: f32)
     ensures { Filters svf_from svf_fields (each svf_next) (puts (svf_multimode mode))
         state.old (within in_.now out.old) out.old state.new out.new }
 {
@@ -242,8 +210,7 @@ pub extern "C" fn svf_process_multimode_buffer(
     filter_fields::svf_retain(state, s);
 }
 
-#[unsafe(no_mangle)]
-pub extern "C" fn svf_process_add_dual_buffer(
+pub fn svf_process_add_dual_buffer(
     state: &mut [f32; 5],
     in_: &[f32],
     out_1: &mut [f32],

@@ -9,7 +9,7 @@ use std::fs::{self, File};
 use std::process::{exit, Command, Stdio};
 use std::time::Instant;
 
-const PROGRAM: &str = "target/bin/frame_calls";
+const PROGRAM: &str = "crates/frame_calls/out/frame_calls";
 const REFERENCE: &str = "target/cargo/release/reference";
 const FOLDER: &str = "target/histories";
 

@@ -1,0 +1,29 @@
+// DcBlocker: pole, x, y.
+
+ghost use Rattle.std.specs.Prelude.{◌≡◌};
+ghost use Rattle.filter_core.specs.Buffer.{each, puts};
+ghost use Rattle.dc_blocker.specs.DcBlocker.{dc_new, dc_init, dc_next, dc_out};
+ghost use Rattle.filter_fields.specs.Fields.{dc_from, dc_fields};
+ghost use Rattle.filter_exports.specs.Calls.{Filters};
+
+#[unsafe(no_mangle)]
+pub extern "C" fn dc_blocker_new(state: &mut [f32; 3])
+    ensures { state.new ≡ dc_fields dc_new }
+{
+    filter_exports::dc_blocker_calls::dc_blocker_new(state);
+}
+
+#[unsafe(no_mangle)]
+pub extern "C" fn dc_blocker_init(state: &mut [f32; 3], pole: f32)
+    ensures { state.new ≡ dc_fields (dc_init (dc_from state.old) pole) }
+{
+    filter_exports::dc_blocker_calls::dc_blocker_init(state, pole);
+}
+
+#[unsafe(no_mangle)]
+pub extern "C" fn dc_blocker_process(state: &mut [f32; 3], in_out: &mut [f32])
+    ensures { Filters dc_from dc_fields (each dc_next) (puts dc_out)
+        state.old in_out.old in_out.old state.new in_out.new }
+{
+    filter_exports::dc_blocker_calls::dc_blocker_process(state, in_out);
+}
