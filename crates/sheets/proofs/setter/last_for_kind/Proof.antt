@@ -12,18 +12,18 @@ last_for_kind_spec =
     (tie.spec
     (λ c.
     let d = c.before in
-    let e : d.args.kind ≡ 1 = omega (arith, d.requires, c.if-kind-lt2.true) in
+    let e : d.args.kind ≡ 1 = omega (arith, d.requires) in
     (only_0 d.args.edition d.args.kind (λ p. rw e refl), search rules))
     (λ c.
     let d = c.before.before in
-    let e : d.args.kind ≡ 4 = omega (arith, c.if-kind-eq4.true) in
+    let e : d.args.kind ≡ 4 = omega arith in
     (only_0 d.args.edition d.args.kind (λ p. rw e refl), search rules))
     (λ c.
     let d = c.before.before.before in
-    let e : d.args.kind ≡ suc (suc (suc (suc (suc (suc (d.args.kind - 6)))))) = omega (arith, c.if-kind-gt5.true) in
+    let e : d.args.kind ≡ suc (suc (suc (suc (suc (suc (d.args.kind - 6)))))) = omega arith in
     (only_0 d.args.edition d.args.kind (λ p. rw e (unknowns 2 (d.args.kind - 6))), search rules))
     (λ c κs. search rules)
     (λ c.
     let b = c.before in
     let d = b.before.before.before in
-    (kinds_2_3_5 d.args.edition _ c.last_approximation.ensures.0 d.args.kind (omega (arith, b.before.before.if-kind-lt2.false)) (λ e. omega (arith, e, b.before.if-kind-eq4.false)) (omega (arith, b.if-kind-gt5.false)), search rules)))
+    (kinds_2_3_5 d.args.edition _ c.last_approximation.ensures.0 d.args.kind (omega arith) (λ e. omega (arith, e)) (omega arith), search rules)))

@@ -7,8 +7,8 @@ pub setter_in_spec : {M : Type 1} → statement M
 setter_in_spec =
     tie.close
     (tie.spec
-    (λ c. let a = c.before.args in below_kinds a.edition a.kind (omega (arith, c.if-low-lt1.true)))
-    (λ c. let a = c.before.before.args in above_kinds a.edition a.kind (omega (arith, c.if-low-gt7.true)))
+    (λ c. let a = c.before.args in below_kinds a.edition a.kind (omega arith))
+    (λ c. let a = c.before.before.args in above_kinds a.edition a.kind (omega arith))
     (λ c κs. search halves)
     (λ c. search halves)
     (λ c κs. search halves)
