@@ -118,11 +118,11 @@ module _ {S : Type 0} {next : ℕ → S → Float → S} {put : ℕ → S → Fl
   start e = begin (omega arith) (omega arith)
 
   -- ys is the first of two outputs, or the second
-  pub start_first : (zs : List Float) → n ≡ min (length xs) (min (length ys) (length zs)) → Going next put xs n s ys 0 s ys
-  start_first zs e = begin (omega arith) (omega arith)
+  pub start_first : {m : ℕ} (zs : List Float) → m ≡ min (length ys) (length zs) → n ≡ min (length xs) m → Going next put xs n s ys 0 s ys
+  start_first zs d e = begin (omega arith) (omega arith)
 
-  pub start_second : (zs : List Float) → n ≡ min (length xs) (min (length zs) (length ys)) → Going next put xs n s ys 0 s ys
-  start_second zs e = begin (omega arith) (omega arith)
+  pub start_second : {m : ℕ} (zs : List Float) → m ≡ min (length zs) (length ys) → n ≡ min (length xs) m → Going next put xs n s ys 0 s ys
+  start_second zs d e = begin (omega arith) (omega arith)
 
   pub again : {i : ℕ} {f f' : S} {zs : List Float} {y : Float} → Going next put xs n s ys i f zs → i < n → f' ≡ next i f (at xs i) → y ≡ put i f (at xs i) (at ys i)
       → Going next put xs n s ys (i + 1) f' (set zs i y)
@@ -132,13 +132,13 @@ module _ {S : Type 0} {next : ℕ → S → Float → S} {put : ℕ → S → Fl
       → Filtered next put s (within xs ys) ys f zs
   filtered g h e = finish g h (within_two xs ys n e)
 
-  pub filtered_first : (ws : List Float) {i : ℕ} {f : S} {zs : List Float} → Going next put xs n s ys i f zs → n ≤ i → n ≡ min (length xs) (min (length ys) (length ws))
+  pub filtered_first : (ws : List Float) {i m : ℕ} {f : S} {zs : List Float} → Going next put xs n s ys i f zs → n ≤ i → m ≡ min (length ys) (length ws) → n ≡ min (length xs) m
       → Filtered next put s (within (within xs ys) ws) ys f zs
-  filtered_first ws g h e = finish g h (within_three xs ys ws n e)
+  filtered_first ws g h d e = finish g h (within_three xs ys ws n (rw d at e))
 
-  pub filtered_second : (ws : List Float) {i : ℕ} {f : S} {zs : List Float} → Going next put xs n s ys i f zs → n ≤ i → n ≡ min (length xs) (min (length ws) (length ys))
+  pub filtered_second : (ws : List Float) {i m : ℕ} {f : S} {zs : List Float} → Going next put xs n s ys i f zs → n ≤ i → m ≡ min (length ws) (length ys) → n ≡ min (length xs) m
       → Filtered next put s (within (within xs ws) ys) ys f zs
-  filtered_second ws g h e = finish g h (within_three xs ws ys n e)
+  filtered_second ws g h d e = finish g h (within_three xs ws ys n (rw d at e))
 
 -- ---- in place: what is read at the place i is what stood there at first
 
@@ -178,7 +178,7 @@ module _ {S : Type 0} {d : ℕ} {step : S → Float → S} {out : S → Float �
   pub leap_start : n ≡ min (length xs) (length ys) → Leaping d step out xs n s ys 0 s ys
   leap_start e = record { going = start e; on = λ h. zero-mod d }
 
-  pub leap : {i j : ℕ} {f f' : S} {zs : List Float} {y : Float} → Leaping d step out xs n s ys i f zs → i < n → 0 < d → f' ≡ step f (at xs i) → y ≡ out f (at xs i)
+  leap : {i j : ℕ} {f f' : S} {zs : List Float} {y : Float} → Leaping d step out xs n s ys i f zs → i < n → 0 < d → f' ≡ step f (at xs i) → y ≡ out f (at xs i)
       → j ≡ min n (i + d) → Leaping d step out xs n s ys j f' (set zs i y)
   leap {i} {j} {f} {f'} {zs} {y} l h z e o w =
       let now : due d i ≡ true = eq-eqb (i % d) 0 (l.on h) in
@@ -197,6 +197,15 @@ module _ {S : Type 0} {d : ℕ} {step : S → Float → S} {out : S → Float �
   pub leap_filtered : {i : ℕ} {f : S} {zs : List Float} → Leaping d step out xs n s ys i f zs → n ≤ i → n ≡ min (length xs) (length ys)
       → Filtered (each_due d step) (puts_due d out) s (within xs ys) ys f zs
   leap_filtered l h e = filtered l.going h e
+
+  -- a leap inside the first n places, and one that leaves them
+  pub leap_on : {i : ℕ} {f f' : S} {zs : List Float} {y : Float} → Leaping d step out xs n s ys i f zs → i < n → 0 < d → f' ≡ step f (at xs i) → y ≡ out f (at xs i)
+      → d < n - i → Leaping d step out xs n s ys (i + d) f' (set zs i y)
+  leap_on {i} l h z e o q = leap {j = i + d} l h z e o (omega arith)
+
+  pub leap_off : {i : ℕ} {f f' : S} {zs : List Float} {y : Float} → Leaping d step out xs n s ys i f zs → i < n → 0 < d → f' ≡ step f (at xs i) → y ≡ out f (at xs i)
+      → n - i ≤ d → n ≡ min (length xs) (length ys) → Filtered (each_due d step) (puts_due d out) s (within xs ys) ys f' (set zs i y)
+  leap_off {i} l h z e o q w = leap_filtered (leap {j = n} l h z e o (omega arith)) (omega arith) w
 
   pub count_start : n ≡ min (length xs) (length ys) → 0 < d → Counting d step out xs n s ys 0 0 s ys
   count_start e z = record { going = start e; small = omega arith; on = zero-mod d }
@@ -243,4 +252,4 @@ pub times : (a b g : Float) → a ≡ b → mul binary32 a g ≡ mul binary32 b 
 times a b g e = rw e refl
 
 -- what `search` is handed at each need of such a loop
-pub ruleset passing = (start, start_first, start_second, again, filtered, filtered_first, filtered_second, place_start, place_again, place_filtered, leap_start, leap, leap_filtered, count_start, count_write, count_keep, count_filtered, some_step, refused, accepted, times, rules)
+pub ruleset passing = (start, start_first, start_second, again, filtered, filtered_first, filtered_second, place_start, place_again, place_filtered, leap_start, leap_on, leap_off, leap_filtered, count_start, count_write, count_keep, count_filtered, some_step, refused, accepted, times, rules)

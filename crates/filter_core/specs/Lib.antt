@@ -4,4 +4,5 @@ pub mod Series
 pub mod Odd
 pub mod Buffer
 pub mod Refusal
+pub mod Fields
 pub mod Rows

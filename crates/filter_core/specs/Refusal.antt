@@ -1,10 +1,36 @@
--- The refusals of the filter calls, and what a refused call hands back.
-use Rattle.std.specs.Prelude.{ℕ, ◌≡◌, cond, List, [], eqb, Float}
+-- The numbers of the refusals, those of the filter calls, and what a refused call hands back.
+use Rattle.std.specs.Prelude.{ℕ, ◌≡◌, cond, List, [], eqb, Float, Result, Ok, Err}
 use Rattle.std.specs.Float.Ieee.{lt}
 use Rattle.filter_core.specs.Arithmetic.{word}
 use Rattle.filter_core.specs.Buffer.{Filtered}
 use Rattle.filter_core.specs.declared.FrequencyApproximation.{FrequencyApproximation}
 use Rattle.filter_core.specs.declared.FrequencyApproximation.TheVariants.{Exact, Accurate, Fast, Dirty, Series}
+use Rattle.filter_core.specs.declared.refusal.Refusal.{Refusal}
+use Rattle.filter_core.specs.declared.refusal.Refusal.TheVariants as row
+
+-- the number of a row of the refusal table
+abbrev pub number : Refusal → ℕ
+number row.Head = 1
+number row.Size = 2
+number row.Kind = 3
+number row.Word = 4
+number row.Entry = 5
+number row.Bare = 6
+number row.Mark = 7
+number row.Full = 8
+number row.Form = 9
+number row.Step = 10
+number row.Frequency = 11
+number row.Short = 12
+number row.Series = 15
+number row.Unfinished = 16
+number row.Finished = 17
+number row.Count = 18
+
+-- the number that a call answers: 0 where it is accepted
+abbrev pub number_in : {A : Type 0} → Result A Refusal → ℕ
+number_in (Ok a) = 0
+number_in (Err refusal) = number refusal
 
 -- `step` of the refusal table: a stride or a decimation of 0
 abbrev pub step_refusal : ℕ → ℕ

@@ -7,6 +7,7 @@ use native.Mathlib.Nat.{zero-add, add_assoc}
 use native.Mathlib.Numerals.{add-one}
 use native.Mathlib.Omega.{arith}
 use borrow.Author.Rules.{rules}
+use borrow.Rule.Slice.PartMut.{put_mid}
 use lib.ListN.{length, get_or, set, take, drop, length-set, length-append, drop_of_length-le}
 use lib.Seq.{paste, paste-zero, paste-suc, length-paste, take-paste, drop-paste, take-append-add, take-append-le, take_all, take-take, take-length, drop-drop, set_split}
 use Rattle.lists.specs.Over.{room, over}
@@ -30,6 +31,12 @@ module _ {A : Type 0} where
 
   pub length_over : (at : ℕ) (xs ys : List A) → length (over at xs ys) ≡ length ys
   length_over at xs ys = ⊎_elim (λ h. ap length (over_past at xs ys (omega arith))) (length_inside at xs ys) (below (length ys) at)
+
+  -- what a part of ys becomes that takes the front of xs
+  pub over_part : (at : ℕ) {k n : ℕ} (xs ys : List A) {zs : List A} → n ≡ room at xs ys → k ≡ n → zs ≡ take n xs → put_mid at k ys zs ≡ over at xs ys
+  unfolding over
+  over_part at xs ys e d z =
+      rw (d, z, e, drop-drop (room at xs ys) at ys) (sym (append_assoc (take at ys) (take (room at xs ys) xs) (drop (at + room at xs ys) ys)))
 
   -- all of it, where it has room
   pub over_all : (xs ys : List A) → length xs ≤ length ys → over 0 xs ys ≡ xs ++ drop (length xs) ys

@@ -1,3 +1,1 @@
 pub mod Constants
-pub mod Approximations
-pub mod Settings

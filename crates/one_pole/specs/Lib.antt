@@ -1,2 +1,3 @@
 pub mod Tangent
 pub mod OnePole
+pub mod Fields

@@ -1,40 +1,19 @@
 // Zero-delay-feedback one-pole filter, and the tangent that it shares with the state-variable filter.
 #![tactic(auto)]
 
-ghost use Rattle.std.specs.Prelude.{◌≡◌};
-ghost use Rattle.filter_core.specs.Refusal.{frequency_refusal, unless_refused};
-ghost use Rattle.filter_core.specs.Arithmetic.{zeroᶠ};
+ghost use Rattle.std.specs.Prelude.{◌≡◌, IfOk};
+ghost use Rattle.filter_core.specs.Refusal.{number_in, frequency_refusal, unless_refused};
+ghost use Rattle.one_pole.specs.Fields.{one_pole_from, one_pole_fields};
 ghost use Rattle.one_pole.specs.Tangent.{tan_series, tangent, tan_exact, tan_mirrored, tan_dirty, tan_fast, tan_accurate, tan_by_series, tan_of, TangentIsOdd};
 ghost use Rattle.one_pole.specs.OnePole.{one_pole_new, one_pole_init, one_pole_reset, one_pole_set_g, one_pole_set_f, one_pole_next, one_pole_out};
 
-use filter_core::{FilterMode, FrequencyApproximation};
+use filter_core::{FilterMode, Form, FrequencyApproximation, Refusal};
 
 #[derive(Clone, Copy)]
 pub struct OnePole {
     pub g: f32,
     pub gi: f32,
     pub state: f32,
-}
-
-// A filter after a sample, and what it puts out.
-#[derive(Clone, Copy)]
-pub struct OnePoleOut {
-    pub filter: OnePole,
-    pub out: f32,
-}
-
-// What a call that can be refused answers: 0 and the filter after it, or the refusal's number and the filter as it was.
-#[derive(Clone, Copy)]
-pub struct OnePoleAnswer {
-    pub number: u8,
-    pub filter: OnePole,
-}
-
-// A tangent, or the refusal's number and 0.0.
-#[derive(Clone, Copy)]
-pub struct Tangent {
-    pub number: u8,
-    pub value: f32,
 }
 
 impl OnePole {
@@ -93,22 +72,17 @@ impl OnePole {
         }
     }
 
-    pub fn init(self) -> Self
-        ensures { result ≡ one_pole_init self }
+    pub fn init(&mut self)
+        ensures { self.new ≡ one_pole_init self.old }
     {
-        let set = self.set_f(0.01, FrequencyApproximation::Dirty);
-        let filter = set.filter;
-        filter.reset()
+        self.set_g(Self::tan_value(0.01, FrequencyApproximation::Dirty));
+        self.reset();
     }
 
-    pub fn reset(self) -> Self
-        ensures { result ≡ one_pole_reset self }
+    pub fn reset(&mut self)
+        ensures { self.new ≡ one_pole_reset self.old }
     {
-        Self {
-            g: self.g,
-            gi: self.gi,
-            state: 0.0,
-        }
+        self.state = 0.0;
     }
 
     // 01's T: tan x for x up to an eighth turn, and a polynomial beyond.
@@ -196,66 +170,70 @@ impl OnePole {
         }
     }
 
-    pub fn tan(f: f32, approximation: FrequencyApproximation) -> Tangent
-        ensures { (result.number ≡ frequency_refusal f approximation)
-            × (result.value ≡ unless_refused (frequency_refusal f approximation) zeroᶠ (tan_of f approximation)) }
+    // A frequency that the approximation does not take is refused.
+    pub fn tan(f: f32, approximation: FrequencyApproximation) -> Result<f32, Refusal>
+        ensures refusal { number_in result ≡ frequency_refusal f approximation }
+        ensures value { IfOk result (λ value. value ≡ tan_of f approximation) }
     {
-        let number = filter_core::frequency_refusal(f, approximation);
-        if number != 0 {
-            return Tangent {
-                number: number,
-                value: 0.0,
-            };
-        }
-        Tangent {
-            number: 0,
-            value: Self::tan_value(f, approximation),
-        }
+        filter_core::check_frequency(f, approximation)?;
+        Ok(Self::tan_value(f, approximation))
     }
 
     // The filter at the tangent g.
-    fn set_g(self, g: f32) -> Self
-        ensures { result ≡ one_pole_set_g self g }
+    fn set_g(&mut self, g: f32)
+        ensures { self.new ≡ one_pole_set_g self.old g }
     {
-        Self {
-            g: g,
-            gi: 1.0 / (1.0 + g),
-            state: self.state,
-        }
+        self.g = g;
+        self.gi = 1.0 / (1.0 + g);
     }
 
-    pub fn set_f(self, f: f32, approximation: FrequencyApproximation) -> OnePoleAnswer
-        ensures { (result.number ≡ frequency_refusal f approximation)
-            × (result.filter ≡ unless_refused (frequency_refusal f approximation) self (one_pole_set_f self f approximation)) }
+    // Refused as `tan` is.
+    pub fn set_f(&mut self, f: f32, approximation: FrequencyApproximation) -> Result<(), Refusal>
+        ensures refusal { number_in result ≡ frequency_refusal f approximation }
+        ensures filter { self.new ≡ unless_refused (frequency_refusal f approximation) self.old (one_pole_set_f self.old f approximation) }
     {
-        let number = filter_core::frequency_refusal(f, approximation);
-        if number != 0 {
-            return OnePoleAnswer {
-                number: number,
-                filter: self,
-            };
-        }
-        OnePoleAnswer {
-            number: 0,
-            filter: self.set_g(Self::tan_value(f, approximation)),
-        }
+        self.set_g(Self::tan(f, approximation)?);
+        Ok(())
     }
 
     // Both band-pass modes answer 0.0 while the state moves on, as the source does.
-    pub fn process(self, in_: f32, mode: FilterMode) -> OnePoleOut
-        ensures { (result.filter ≡ one_pole_next self in_) × (result.out ≡ one_pole_out mode self in_) }
+    pub fn process(&mut self, in_: f32, mode: FilterMode) -> f32
+        ensures after { self.new ≡ one_pole_next self.old in_ }
+        ensures value { result ≡ one_pole_out mode self.old in_ }
     {
         let lp = (self.g * in_ + self.state) * self.gi;
-        let filter = Self {
-            g: self.g,
-            gi: self.gi,
-            state: self.g * (in_ - lp) + lp,
-        };
-        let out = filter_core::by_mode(mode, lp, 0.0, 0.0, in_ - lp);
-        OnePoleOut {
-            filter: filter,
-            out: out,
-        }
+        self.state = self.g * (in_ - lp) + lp;
+        filter_core::by_mode(mode, lp, 0.0, 0.0, in_ - lp)
+    }
+}
+
+// Every sample gives the mode's tap.
+impl Form<OnePole> for FilterMode {
+    ghost next = { λ mode s x. one_pole_next s x };
+
+    ghost out = { λ mode s x. one_pole_out mode s x };
+
+    fn step(&self, filter: &mut OnePole, x: f32) -> f32 {
+        filter.process(x, *self)
+    }
+}
+
+// ---- a filter as the array of its fields
+
+impl From<[f32; 3]> for OnePole {
+    ghost from_gives = { λ fields s. s ≡ one_pole_from fields };
+
+    fn from(fields: [f32; 3]) -> OnePole {
+        let [g, gi, state] = fields;
+        OnePole { g, gi, state }
+    }
+}
+
+impl From<OnePole> for [f32; 3] {
+    ghost from_gives = { λ s fields. fields ≡ one_pole_fields s };
+
+    fn from(s: OnePole) -> [f32; 3] {
+        [s.g, s.gi, s.state]
     }
 }
 

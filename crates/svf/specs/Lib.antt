@@ -1,1 +1,2 @@
 pub mod Svf
+pub mod Fields

@@ -7,56 +7,41 @@ ghost use Rattle.std.specs.Float.{binary32};
 ghost use Rattle.std.specs.Float.Ieee.{of_bits, to_bits};
 ghost use Rattle.words.specs.Word.{word_of, word_from, other_nan};
 
+use std::num;
+
 pub fn word_to_f32(w: u32) -> f32
     ensures { result ≡ of_bits binary32 w }
 {
-    if w % 0x8000_0000 > 0x7f80_0000 {
-        return 0.0 / 0.0;
-    }
-    f32::from_bits(w)
+    num::f32_from_bits_with_nan(w)
 }
 
 pub fn f32_to_word(x: f32) -> u32
     ensures { result ≡ to_bits binary32 x }
 {
-    if x != x {
-        return 0x7fc0_0000;
-    }
-    f32::to_bits(x)
+    num::f32_to_bits_with_nan(x)
 }
 
+#[tactic(auto, using(crate::proofs::Words::any_nan, crate::proofs::Words::nan_written))]
 pub fn other_nan(w: u32) -> bool
     ensures { result ≡ other_nan w }
 {
-    if w == 0x7fc0_0000 {
-        return false;
-    }
-    w % 0x8000_0000 > 0x7f80_0000
-}
-
-fn wide(b: u8) -> u32
-    ensures { result ≡ b }
-{
-    b as u32
+    w != 0x7fc0_0000 && w % 0x8000_0000 > 0x7f80_0000
 }
 
 fn word_of(a: u8, b: u8, c: u8, d: u8) -> u32
     ensures { result ≡ word_of a b c d }
 {
-    wide(a) + 256 * wide(b) + 65536 * wide(c) + 16777216 * wide(d)
+    u32::from_le_bytes([a, b, c, d])
 }
 
-// The byte k places after `at`; 0 past the end.
+// The byte k places after `at`; 0 past the end, where the sum stays below what a length can be.
 pub fn byte_at(bytes: &[u8], at: usize, k: usize) -> u8
     ensures { result ≡ get_or bytes.now (at + k) 0 }
 {
-    if bytes.len() <= at {
-        return 0;
+    match bytes.get(at.saturating_add(k)) {
+        Some(&byte) => byte,
+        None => 0,
     }
-    if bytes.len() - at <= k {
-        return 0;
-    }
-    bytes[at + k]
 }
 
 // The word whose low byte stands at `at`; bytes past the end count as 0.
