@@ -1,1 +1,2 @@
 pub mod CrossoverSvf
+pub mod Fields

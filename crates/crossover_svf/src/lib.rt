@@ -1,11 +1,12 @@
 // Two passes of the modified state-variable filter with the same coefficients, for Linkwitz-Riley crossovers.
 #![tactic(auto)]
 
-ghost use Rattle.std.specs.Prelude.{◌≡◌};
+ghost use Rattle.std.specs.Prelude.{◌≡◌, ◌<◌};
 ghost use Rattle.filter_core.specs.Buffer.{Filtered, within, each, puts};
+ghost use Rattle.crossover_svf.specs.Fields.{crossover_from, crossover_fields};
 ghost use Rattle.crossover_svf.specs.CrossoverSvf.{crossover_new, crossover_init, crossover_reset, crossover_set_f_fq, pass, joined, crossover_next, crossover_out};
 
-use filter_core::FilterMode;
+use filter_core::{FilterMode, Form};
 use modified_svf::ModifiedSvf;
 
 // The members of x, lp and bp are those of the first and of the second pass.
@@ -16,13 +17,6 @@ pub struct CrossoverSvf {
     pub x: [f32; 2],
     pub lp: [f32; 2],
     pub bp: [f32; 2],
-}
-
-// A filter after a sample, and what it puts out.
-#[derive(Clone, Copy)]
-pub struct CrossoverSvfOut {
-    pub filter: CrossoverSvf,
-    pub out: f32,
 }
 
 impl CrossoverSvf {
@@ -38,102 +32,106 @@ impl CrossoverSvf {
         }
     }
 
-    pub fn init(self) -> Self
-        ensures { result ≡ crossover_init self }
+    pub fn init(&mut self)
+        ensures { self.new ≡ crossover_init self.old }
     {
-        self.reset()
+        self.reset();
     }
 
-    pub fn reset(self) -> Self
-        ensures { result ≡ crossover_reset self }
+    pub fn reset(&mut self)
+        ensures { self.new ≡ crossover_reset self.old }
     {
-        Self {
-            f: self.f,
-            fq: self.fq,
-            x: [0.0; 2],
-            lp: [0.0; 2],
-            bp: [0.0; 2],
-        }
+        self.x = [0.0; 2];
+        self.lp = [0.0; 2];
+        self.bp = [0.0; 2];
     }
 
     // The last samples x stay, as in the source.
-    pub fn set_f_fq(self, f: f32, fq: f32) -> Self
-        ensures { result ≡ crossover_set_f_fq self f fq }
+    pub fn set_f_fq(&mut self, f: f32, fq: f32)
+        ensures { self.new ≡ crossover_set_f_fq self.old f fq }
     {
-        let x = self.x;
-        let lp = self.lp;
-        let bp = self.bp;
-        Self {
-            f: f,
-            fq: fq,
-            x: x,
-            lp: lp,
-            bp: bp,
-        }
+        self.f = f;
+        self.fq = fq;
     }
 
-    // The first pass as a filter of its own, and the second.
-    fn first(self) -> ModifiedSvf
-        ensures { result ≡ pass 0 self }
+    // The pass k as a filter of its own.
+    fn pass(&self, k: usize) -> ModifiedSvf
+        requires { k < 2 }
+        ensures { result ≡ pass k self.now }
     {
         ModifiedSvf {
             f: self.f,
             fq: self.fq,
-            x: self.x[0],
-            lp: self.lp[0],
-            bp: self.bp[0],
+            x: self.x[k],
+            lp: self.lp[k],
+            bp: self.bp[k],
         }
     }
 
-    fn second(self) -> ModifiedSvf
-        ensures { result ≡ pass 1 self }
+    // Takes the states of the two passes back.
+    fn join(&mut self, a: ModifiedSvf, b: ModifiedSvf)
+        ensures { self.new ≡ joined self.old a b }
     {
-        ModifiedSvf {
-            f: self.f,
-            fq: self.fq,
-            x: self.x[1],
-            lp: self.lp[1],
-            bp: self.bp[1],
-        }
-    }
-
-    fn joined(self, a: ModifiedSvf, b: ModifiedSvf) -> Self
-        ensures { result ≡ joined self a b }
-    {
-        Self {
-            f: self.f,
-            fq: self.fq,
-            x: [a.x, b.x],
-            lp: [a.lp, b.lp],
-            bp: [a.bp, b.bp],
-        }
+        self.x = [a.x, b.x];
+        self.lp = [a.lp, b.lp];
+        self.bp = [a.bp, b.bp];
     }
 
     // One sample, through both passes.
-    fn process_sample(self, in_: f32, mode: FilterMode) -> CrossoverSvfOut
-        ensures { (result.filter ≡ crossover_next mode self in_) × (result.out ≡ crossover_out mode self in_) }
+    #[tactic(auto, unfolding(crate::specs::CrossoverSvf::crossover_next, crate::specs::CrossoverSvf::crossover_out))]
+    fn process_sample(&mut self, in_: f32, mode: FilterMode) -> f32
+        ensures after { self.new ≡ crossover_next mode self.old in_ }
+        ensures value { result ≡ crossover_out mode self.old in_ }
     {
-        let a = self.first().process_sample(in_, mode);
-        let b = self.second().process_sample(a.out, mode);
-        let filter = self.joined(a.filter, b.filter);
-        CrossoverSvfOut {
-            filter: filter,
-            out: b.out,
-        }
+        let mut a = self.pass(0);
+        let mut b = self.pass(1);
+        let between = a.process_sample(in_, mode);
+        let out = b.process_sample(between, mode);
+        self.join(a, b);
+        out
     }
 
-    pub fn process(self, in_: &[f32], out: &mut [f32], mode: FilterMode) -> Self
-        ensures { Filtered (each (crossover_next mode)) (puts (crossover_out mode)) self (within in_.now out.old) out.old result out.new }
+    pub fn process(&mut self, in_: &[f32], out: &mut [f32], mode: FilterMode)
+        ensures { Filtered (each (crossover_next mode)) (puts (crossover_out mode)) self.old (within in_.now out.old) out.old self.new out.new }
     {
-        let n = filter_core::shortest(in_.len(), out.len());
-        let mut f = self;
-        let mut i = 0usize;
-        while i < n {
-            let t = f.process_sample(in_[i], mode);
-            out[i] = t.out;
-            f = t.filter;
-            i += 1;
+        filter_core::filter_each(&mode, self, in_, out);
+    }
+}
+
+// Every sample gives the mode's tap.
+impl Form<CrossoverSvf> for FilterMode {
+    ghost next = { λ mode s x. crossover_next mode s x };
+
+    ghost out = { λ mode s x. crossover_out mode s x };
+
+    fn step(&self, filter: &mut CrossoverSvf, x: f32) -> f32 {
+        filter.process_sample(x, *self)
+    }
+}
+
+// ---- a filter as the array of its fields
+
+impl From<[f32; 8]> for CrossoverSvf {
+    ghost from_gives = { λ fields s. s ≡ crossover_from fields };
+
+    fn from(fields: [f32; 8]) -> CrossoverSvf {
+        let [f, fq, x_0, x_1, lp_0, lp_1, bp_0, bp_1] = fields;
+        CrossoverSvf {
+            f,
+            fq,
+            x: [x_0, x_1],
+            lp: [lp_0, lp_1],
+            bp: [bp_0, bp_1],
         }
-        f
+    }
+}
+
+impl From<CrossoverSvf> for [f32; 8] {
+    ghost from_gives = { λ s fields. fields ≡ crossover_fields s };
+
+    fn from(s: CrossoverSvf) -> [f32; 8] {
+        [
+            s.f, s.fq, s.x[0], s.x[1], s.lp[0], s.lp[1], s.bp[0], s.bp[1],
+        ]
     }
 }

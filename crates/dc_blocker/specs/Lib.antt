@@ -1,1 +1,2 @@
 pub mod DcBlocker
+pub mod Fields

@@ -4,6 +4,9 @@
 ghost use Rattle.std.specs.Prelude.{◌≡◌};
 ghost use Rattle.filter_core.specs.Buffer.{Filtered, each, puts};
 ghost use Rattle.dc_blocker.specs.DcBlocker.{dc_new, dc_init, dc_next, dc_out};
+ghost use Rattle.dc_blocker.specs.Fields.{dc_from, dc_fields};
+
+use filter_core::Form;
 
 #[derive(Clone, Copy)]
 pub struct DcBlocker {
@@ -23,38 +26,62 @@ impl DcBlocker {
         }
     }
 
-    pub fn init(self, pole: f32) -> Self
-        ensures { result ≡ dc_init self pole }
+    pub fn init(&mut self, pole: f32)
+        ensures { self.new ≡ dc_init self.old pole }
     {
-        Self {
-            pole: pole,
-            x: 0.0,
-            y: 0.0,
-        }
+        self.pole = pole;
+        self.x = 0.0;
+        self.y = 0.0;
     }
 
     // One sample: the new y is the output.
-    fn next(self, x: f32) -> Self
-        ensures { (result ≡ dc_next self x) × (result.y ≡ dc_out self x) }
+    fn next(&mut self, x: f32) -> f32
+        ensures after { self.new ≡ dc_next self.old x }
+        ensures value { result ≡ dc_out self.old x }
     {
-        Self {
-            pole: self.pole,
-            x: x,
-            y: self.y * self.pole + x - self.x,
-        }
+        self.y = self.y * self.pole + x - self.x;
+        self.x = x;
+        self.y
     }
 
-    pub fn process(self, in_out: &mut [f32]) -> Self
-        ensures { Filtered (each dc_next) (puts dc_out) self in_out.old in_out.old result in_out.new }
+    pub fn process(&mut self, in_out: &mut [f32])
+        ensures { Filtered (each dc_next) (puts dc_out) self.old in_out.old in_out.old self.new in_out.new }
     {
-        let n = in_out.len();
-        let mut f = self;
-        let mut i = 0usize;
-        while i < n {
-            f = f.next(in_out[i]);
-            in_out[i] = f.y;
-            i += 1;
+        for x in in_out.iter_mut() {
+            *x = self.next(*x);
         }
-        f
+    }
+}
+
+// Every sample from one buffer to another.
+#[derive(Clone, Copy)]
+pub struct Blocking;
+
+impl Form<DcBlocker> for Blocking {
+    ghost next = { λ form s x. dc_next s x };
+
+    ghost out = { λ form s x. dc_out s x };
+
+    fn step(&self, filter: &mut DcBlocker, x: f32) -> f32 {
+        filter.next(x)
+    }
+}
+
+// ---- a filter as the array of its fields
+
+impl From<[f32; 3]> for DcBlocker {
+    ghost from_gives = { λ fields s. s ≡ dc_from fields };
+
+    fn from(fields: [f32; 3]) -> DcBlocker {
+        let [pole, x, y] = fields;
+        DcBlocker { pole, x, y }
+    }
+}
+
+impl From<DcBlocker> for [f32; 3] {
+    ghost from_gives = { λ s fields. fields ≡ dc_fields s };
+
+    fn from(s: DcBlocker) -> [f32; 3] {
+        [s.pole, s.x, s.y]
     }
 }

@@ -210,17 +210,17 @@ module _ {S : Type 0} {d : ℕ} {step : S → Float → S} {out : S → Float �
   pub count_start : n ≡ min (length xs) (length ys) → 0 < d → Counting d step out xs n s ys 0 0 s ys
   count_start e z = record { going = start e; small = omega arith; on = zero-mod d }
 
-  pub count_write : {i m m' : ℕ} {f f' : S} {zs : List Float} {y : Float} → Counting d step out xs n s ys i m f zs → i < n → m ≡ 0 → m' ≡ d - 1
+  pub count_write : {i m m' : ℕ} {f f' : S} {zs : List Float} {y : Float} → Counting d step out xs n s ys i m f zs → i < n → m ≤ 0 → m' ≡ d - 1
       → f' ≡ step f (at xs i) → y ≡ out f (at xs i) → Counting d step out xs n s ys (i + 1) m' f' (set zs i y)
   count_write {i} {m} {m'} {f} {f'} {zs} {y} g h z c e o =
-      let now : due d i ≡ true = due_here d i m g.on z in
+      let now : due d i ≡ true = due_here d i m g.on (omega arith) in
       let turn : i + 1 + m' ≡ i + m + d = omega (arith, g.small) in
       record { going = again g.going h e (rw now o); small = omega (arith, g.small); on = rw (turn, add-mod_right) g.on }
 
-  pub count_keep : {i m m' : ℕ} {f f' : S} {zs : List Float} → Counting d step out xs n s ys i m f zs → i < n → (m ≡ 0 → ⊥) → m' ≡ m - 1
+  pub count_keep : {i m m' : ℕ} {f f' : S} {zs : List Float} → Counting d step out xs n s ys i m f zs → i < n → 0 < m → m' ≡ m - 1
       → f' ≡ step f (at xs i) → Counting d step out xs n s ys (i + 1) m' f' zs
   count_keep {i} {m} {m'} {f} {f'} {zs} g h z c e =
-      let off : due d i ≡ false = due_not d i m g.on g.small z in
+      let off : due d i ≡ false = due_not d i m g.on g.small (λ q. omega arith) in
       let turn : i + 1 + m' ≡ i + m = omega arith in
       record { going = rw add-one (kept g.going h e (rw off refl)); small = omega (arith, g.small); on = rw turn g.on }
 

@@ -1,1 +1,2 @@
 pub mod ModifiedSvf
+pub mod Fields

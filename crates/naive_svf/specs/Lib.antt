@@ -1,2 +1,3 @@
 pub mod Sine
 pub mod NaiveSvf
+pub mod Fields

@@ -14,9 +14,13 @@ naive_new = record { f = zeroᶠ; damp = zeroᶠ; lp = zeroᶠ; bp = zeroᶠ }
 abbrev pub naive_reset : NaiveSvf → NaiveSvf
 naive_reset s = record { f = s.f; damp = s.damp; lp = zeroᶠ; bp = zeroᶠ }
 
+-- a filter that is set at the coefficient c
+abbrev pub naive_set : NaiveSvf → Float → Float → NaiveSvf
+naive_set s c resonance = record { f = c; damp = oneᶠ /ᶠ resonance; lp = s.lp; bp = s.bp }
+
 -- what an accepted set_f_q makes of a filter
 abbrev pub naive_set_f_q : NaiveSvf → Float → Float → FrequencyApproximation → NaiveSvf
-naive_set_f_q s f resonance a = record { f = naive_frequency f a; damp = oneᶠ /ᶠ resonance; lp = s.lp; bp = s.bp }
+naive_set_f_q s f resonance a = naive_set s (naive_frequency f a) resonance
 
 -- set_f_q at 0.01 and 100.0 by Dirty, then reset
 abbrev pub naive_init : NaiveSvf → NaiveSvf

@@ -3,12 +3,13 @@
 
 ghost use Rattle.std.specs.Prelude.{◌≡◌, ◌<◌};
 ghost use Rattle.filter_core.specs.Buffer.{Filtered, within, each, puts, puts_due};
-ghost use Rattle.filter_core.specs.Refusal.{Answered, frequency_refusal, unless_refused};
+ghost use Rattle.filter_core.specs.Refusal.{Answered, number_in, frequency_refusal, unless_refused};
+ghost use Rattle.naive_svf.specs.Fields.{naive_from, naive_fields};
 ghost use Rattle.naive_svf.specs.Sine.{clip_at, sine_series, sine_exact, sine_mirrored, naive_exact, naive_linear, naive_frequency, SineIsOdd};
-ghost use Rattle.naive_svf.specs.NaiveSvf.{naive_new, naive_reset, naive_set_f_q, naive_init};
+ghost use Rattle.naive_svf.specs.NaiveSvf.{naive_new, naive_reset, naive_set, naive_set_f_q, naive_init};
 ghost use Rattle.naive_svf.specs.NaiveSvf.{naive_normalized, naive_low, naive_band, naive_high, naive_next, naive_out};
 
-use filter_core::{FilterMode, FrequencyApproximation};
+use filter_core::{FilterMode, Form, FrequencyApproximation, PairForm, Refusal};
 
 #[derive(Clone, Copy)]
 pub struct NaiveSvf {
@@ -18,24 +19,9 @@ pub struct NaiveSvf {
     pub bp: f32,
 }
 
-// A filter after a sample, and what it puts out.
-#[derive(Clone, Copy)]
-pub struct NaiveSvfOut {
-    pub filter: NaiveSvf,
-    pub out: f32,
-}
-
-// What a call that can be refused answers: 0 and the filter after it, or the refusal's number and the filter as it was.
-#[derive(Clone, Copy)]
-pub struct NaiveSvfAnswer {
-    pub number: u8,
-    pub filter: NaiveSvf,
-}
-
-// A filter after a sample, with the two taps that it does not keep.
+// The two taps of a sample that the filter does not keep.
 #[derive(Clone, Copy)]
 struct Taps {
-    filter: NaiveSvf,
     normalized: f32,
     high: f32,
 }
@@ -75,23 +61,18 @@ impl NaiveSvf {
         }
     }
 
-    pub fn init(self) -> Self
-        ensures { result ≡ naive_init self }
+    pub fn init(&mut self)
+        ensures { self.new ≡ naive_init self.old }
     {
-        let set = self.set_f_q(0.01, 100.0, FrequencyApproximation::Dirty);
-        let filter = set.filter;
-        filter.reset()
+        self.set(Self::frequency(0.01, FrequencyApproximation::Dirty), 100.0);
+        self.reset();
     }
 
-    pub fn reset(self) -> Self
-        ensures { result ≡ naive_reset self }
+    pub fn reset(&mut self)
+        ensures { self.new ≡ naive_reset self.old }
     {
-        Self {
-            f: self.f,
-            damp: self.damp,
-            lp: 0.0,
-            bp: 0.0,
-        }
+        self.lp = 0.0;
+        self.bp = 0.0;
     }
 
     // sin x by the series.
@@ -136,170 +117,164 @@ impl NaiveSvf {
     {
         match approximation {
             FrequencyApproximation::Exact => Self::exact_frequency(f),
-            FrequencyApproximation::Accurate => Self::linear_frequency(f),
-            FrequencyApproximation::Fast => Self::linear_frequency(f),
-            FrequencyApproximation::Dirty => Self::linear_frequency(f),
-            FrequencyApproximation::Series => Self::linear_frequency(f),
+            _ => Self::linear_frequency(f),
         }
     }
 
+    // The filter at the coefficient f.
+    fn set(&mut self, f: f32, resonance: f32)
+        ensures { self.new ≡ naive_set self.old f resonance }
+    {
+        self.f = f;
+        self.damp = 1.0 / resonance;
+    }
+
+    // A frequency that the approximation does not take is refused.
     pub fn set_f_q(
-        self,
+        &mut self,
         f: f32,
         resonance: f32,
         approximation: FrequencyApproximation,
-    ) -> NaiveSvfAnswer
-        ensures { (result.number ≡ frequency_refusal f approximation)
-            × (result.filter ≡ unless_refused (frequency_refusal f approximation) self (naive_set_f_q self f resonance approximation)) }
+    ) -> Result<(), Refusal>
+        ensures refusal { number_in result ≡ frequency_refusal f approximation }
+        ensures filter { self.new ≡ unless_refused (frequency_refusal f approximation) self.old (naive_set_f_q self.old f resonance approximation) }
     {
-        let number = filter_core::frequency_refusal(f, approximation);
-        if number != 0 {
-            return NaiveSvfAnswer {
-                number: number,
-                filter: self,
-            };
-        }
-        NaiveSvfAnswer {
-            number: 0,
-            filter: Self {
-                f: Self::frequency(f, approximation),
-                damp: 1.0 / resonance,
-                lp: self.lp,
-                bp: self.bp,
-            },
-        }
+        filter_core::check_frequency(f, approximation)?;
+        self.set(Self::frequency(f, approximation), resonance);
+        Ok(())
     }
 
-    pub fn lp(self) -> f32
-        ensures { result ≡ self.lp }
+    pub fn lp(&self) -> f32
+        ensures { result ≡ self.now.lp }
     {
         self.lp
     }
 
-    pub fn bp(self) -> f32
-        ensures { result ≡ self.bp }
+    pub fn bp(&self) -> f32
+        ensures { result ≡ self.now.bp }
     {
         self.bp
     }
 
-    fn taps(self, in_: f32) -> Taps
-        ensures { (result.filter ≡ naive_next self in_) × (result.filter.lp ≡ naive_low self in_) × (result.filter.bp ≡ naive_band self in_)
-            × (result.normalized ≡ naive_normalized self) × (result.high ≡ naive_high self in_) }
+    #[tactic(auto, unfolding(crate::specs::NaiveSvf::naive_low, crate::specs::NaiveSvf::naive_high, crate::specs::NaiveSvf::naive_next))]
+    fn taps(&mut self, in_: f32) -> Taps
+        ensures after { self.new ≡ naive_next self.old in_ }
+        ensures kept { (self.new.lp ≡ naive_low self.old in_) × (self.new.bp ≡ naive_band self.old in_) }
+        ensures taps { (result.normalized ≡ naive_normalized self.old) × (result.high ≡ naive_high self.old in_) }
     {
         let normalized = self.bp * self.damp;
         let notch = in_ - normalized;
-        let lp = self.lp + self.f * self.bp;
-        let high = notch - lp;
-        let filter = Self {
-            f: self.f,
-            damp: self.damp,
-            lp: lp,
-            bp: self.bp + self.f * high,
-        };
-        Taps {
-            filter: filter,
-            normalized: normalized,
-            high: high,
-        }
+        self.lp += self.f * self.bp;
+        let high = notch - self.lp;
+        self.bp += self.f * high;
+        Taps { normalized, high }
     }
 
-    pub fn process(self, in_: f32, mode: FilterMode) -> NaiveSvfOut
-        ensures { (result.filter ≡ naive_next self in_) × (result.out ≡ naive_out mode self in_) }
+    #[tactic(auto, unfolding(crate::specs::NaiveSvf::naive_out))]
+    pub fn process(&mut self, in_: f32, mode: FilterMode) -> f32
+        ensures after { self.new ≡ naive_next self.old in_ }
+        ensures value { result ≡ naive_out mode self.old in_ }
     {
         let t = self.taps(in_);
-        let filter = t.filter;
-        NaiveSvfOut {
-            filter: filter,
-            out: filter_core::by_mode(mode, filter.lp, filter.bp, t.normalized, t.high),
-        }
+        filter_core::by_mode(mode, self.lp, self.bp, t.normalized, t.high)
     }
 
-    pub fn process_buffer(self, in_: &[f32], out: &mut [f32], mode: FilterMode) -> Self
-        ensures { Filtered (each naive_next) (puts (naive_out mode)) self (within in_.now out.old) out.old result out.new }
+    pub fn process_buffer(&mut self, in_: &[f32], out: &mut [f32], mode: FilterMode)
+        ensures { Filtered (each naive_next) (puts (naive_out mode)) self.old (within in_.now out.old) out.old self.new out.new }
     {
-        let n = filter_core::shortest(in_.len(), out.len());
-        let mut f = self;
-        let mut i = 0usize;
-        while i < n {
-            let t = f.process(in_[i], mode);
-            out[i] = t.out;
-            f = t.filter;
-            i += 1;
-        }
-        f
+        filter_core::filter_each(&mode, self, in_, out);
     }
 
-    pub fn split(self, in_: &[f32], low: &mut [f32], high: &mut [f32]) -> Self
-        ensures lows { Filtered (each naive_next) (puts naive_low) self (within (within in_.now low.old) high.old)
-            low.old result low.new }
-        ensures highs { Filtered (each naive_next) (puts naive_high) self (within (within in_.now low.old) high.old)
-            high.old result high.new }
+    pub fn split(&mut self, in_: &[f32], low: &mut [f32], high: &mut [f32])
+        ensures lows { Filtered (each naive_next) (puts naive_low) self.old (within (within in_.now low.old) high.old)
+            low.old self.new low.new }
+        ensures highs { Filtered (each naive_next) (puts naive_high) self.old (within (within in_.now low.old) high.old)
+            high.old self.new high.new }
     {
-        let n = filter_core::shortest_of_three(in_.len(), low.len(), high.len());
-        let mut f = self;
-        let mut i = 0usize;
-        while i < n {
-            let t = f.taps(in_[i]);
-            f = t.filter;
-            low[i] = f.lp;
-            high[i] = t.high;
-            i += 1;
-        }
-        f
+        filter_core::filter_pair(&Split, self, in_, low, high);
     }
 
     // Filters every sample and writes the places 0, decimate, 2 decimate .. only, each at its own place. A decimation of 0 is refused.
     pub fn process_decimate(
-        self,
+        &mut self,
         in_: &[f32],
         out: &mut [f32],
         decimate: usize,
         mode: FilterMode,
-    ) -> NaiveSvfAnswer
-        ensures { Answered decimate (each naive_next) (puts_due decimate (naive_out mode)) self (within in_.now out.old)
-            out.old result.number result.filter out.new }
+    ) -> Result<(), Refusal>
+        ensures { Answered decimate (each naive_next) (puts_due decimate (naive_out mode)) self.old (within in_.now out.old)
+            out.old (number_in result) self.new out.new }
     {
-        let number = filter_core::step_refusal(decimate);
-        if number != 0 {
-            return NaiveSvfAnswer {
-                number: number,
-                filter: self,
-            };
-        }
-        NaiveSvfAnswer {
-            number: 0,
-            filter: self.decimate_buffer(in_, out, decimate, mode),
-        }
+        filter_core::check_step(decimate)?;
+        self.decimate_buffer(in_, out, decimate, mode);
+        Ok(())
     }
 
-    fn decimate_buffer(
-        self,
-        in_: &[f32],
-        out: &mut [f32],
-        decimate: usize,
-        mode: FilterMode,
-    ) -> Self
+    fn decimate_buffer(&mut self, in_: &[f32], out: &mut [f32], decimate: usize, mode: FilterMode)
         requires { 0 < decimate }
-        ensures { Filtered (each naive_next) (puts_due decimate (naive_out mode)) self (within in_.now out.old) out.old result out.new }
+        ensures { Filtered (each naive_next) (puts_due decimate (naive_out mode)) self.old (within in_.now out.old) out.old self.new out.new }
     {
-        let n = filter_core::shortest(in_.len(), out.len());
-        let mut f = self;
-        let mut i = 0usize;
-        // The phase begins anew at each call.
-        let mut left = 0usize;
-        while i < n {
-            let t = f.process(in_[i], mode);
-            f = t.filter;
-            if left == 0 {
-                out[i] = t.out;
-                left = decimate - 1;
-                i += 1;
-            } else {
+        let n = in_.len().min(out.len());
+        // The phase begins anew at each call. It is counted down: a division at each sample would cost more than the sample.
+        let mut left = 0;
+        for i in 0..n {
+            let y = self.process(in_[i], mode);
+            let waits = left > 0;
+            if waits {
                 left -= 1;
-                i += 1;
+                continue;
             }
+            out[i] = y;
+            left = decimate - 1;
         }
-        f
+    }
+}
+
+// ---- how each form takes a sample
+
+impl Form<NaiveSvf> for FilterMode {
+    ghost next = { λ mode s x. naive_next s x };
+
+    ghost out = { λ mode s x. naive_out mode s x };
+
+    fn step(&self, filter: &mut NaiveSvf, x: f32) -> f32 {
+        filter.process(x, *self)
+    }
+}
+
+// The low-pass and the high-pass.
+#[derive(Clone, Copy)]
+struct Split;
+
+impl PairForm<NaiveSvf> for Split {
+    ghost next = { λ form s x. naive_next s x };
+
+    ghost first = { λ form s x. naive_low s x };
+
+    ghost second = { λ form s x. naive_high s x };
+
+    fn step(&self, filter: &mut NaiveSvf, x: f32) -> (f32, f32) {
+        let t = filter.taps(x);
+        (filter.lp, t.high)
+    }
+}
+
+// ---- a filter as the array of its fields
+
+impl From<[f32; 4]> for NaiveSvf {
+    ghost from_gives = { λ fields s. s ≡ naive_from fields };
+
+    fn from(fields: [f32; 4]) -> NaiveSvf {
+        let [f, damp, lp, bp] = fields;
+        NaiveSvf { f, damp, lp, bp }
+    }
+}
+
+impl From<NaiveSvf> for [f32; 4] {
+    ghost from_gives = { λ s fields. fields ≡ naive_fields s };
+
+    fn from(s: NaiveSvf) -> [f32; 4] {
+        [s.f, s.damp, s.lp, s.bp]
     }
 }
 
