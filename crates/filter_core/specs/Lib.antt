@@ -5,4 +5,5 @@ pub mod Odd
 pub mod Buffer
 pub mod Refusal
 pub mod Fields
+pub mod Numbers
 pub mod Rows

@@ -3,6 +3,7 @@
 #![tactic(auto)]
 
 mod form;
+mod number;
 mod refusal;
 
 ghost use Rattle.std.specs.Prelude.{◌≡◌, reverse};
@@ -13,6 +14,7 @@ ghost use Rattle.filter_core.specs.Rows.{RefusalsByRows};
 ghost use Rattle.filter_core.specs.Series.{horner};
 
 pub use form::{Form, PairForm, filter_each, filter_pair};
+pub use number::UnknownNumber;
 pub use refusal::{EXACT_LOWEST, Refusal, check_frequency, check_step};
 
 #[derive(Clone, Copy, Debug, PartialEq, Eq)]

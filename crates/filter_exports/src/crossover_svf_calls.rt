@@ -3,37 +3,43 @@
 ghost use Rattle.std.specs.Prelude.{◌≡◌};
 ghost use Rattle.filter_core.specs.Buffer.{within, each, puts};
 ghost use Rattle.crossover_svf.specs.CrossoverSvf.{crossover_new, crossover_init, crossover_reset, crossover_set_f_fq, crossover_next, crossover_out};
-ghost use Rattle.filter_fields.specs.Numbers.{last_mode, mode_of, unknown_refusal};
-ghost use Rattle.filter_fields.specs.Fields.{crossover_from, crossover_fields};
+ghost use Rattle.filter_core.specs.Numbers.{last_mode, mode_of};
+ghost use Rattle.filter_fields.specs.Numbers.{unknown_refusal};
+ghost use Rattle.crossover_svf.specs.Fields.{crossover_from, crossover_fields};
 ghost use Rattle.filter_exports.specs.Calls.{Runs};
 
-use crate::{LAST_MODE, UNKNOWN};
+use crate::UNKNOWN;
+use filter_core::FilterMode;
 use crossover_svf::CrossoverSvf;
 
 pub fn crossover_svf_new(state: &mut [f32; 8])
     ensures { state.new ≡ crossover_fields crossover_new }
 {
-    *state = filter_fields::crossover_svf_fields(CrossoverSvf::new());
+    *state = CrossoverSvf::new().into();
 }
 
 pub fn crossover_svf_init(state: &mut [f32; 8])
     ensures { state.new ≡ crossover_fields (crossover_init (crossover_from state.old)) }
 {
-    *state = filter_fields::crossover_svf_fields(filter_fields::crossover_svf_from(state).init());
+    let mut filter = CrossoverSvf::from(*state);
+    filter.init();
+    *state = filter.into();
 }
 
 pub fn crossover_svf_reset(state: &mut [f32; 8])
     ensures { state.new ≡ crossover_fields (crossover_reset (crossover_from state.old)) }
 {
-    *state = filter_fields::crossover_svf_fields(filter_fields::crossover_svf_from(state).reset());
+    let mut filter = CrossoverSvf::from(*state);
+    filter.reset();
+    *state = filter.into();
 }
 
 pub fn crossover_svf_set_f_fq(state: &mut [f32; 8], f: f32, fq: f32)
     ensures { state.new ≡ crossover_fields (crossover_set_f_fq (crossover_from state.old) f fq) }
 {
-    *state = filter_fields::crossover_svf_fields(filter_fields::crossover_svf_from(state).set_f_fq(
-        f, fq,
-    ));
+    let mut filter = CrossoverSvf::from(*state);
+    filter.set_f_fq(f, fq);
+    *state = filter.into();
 }
 
 // Refused with UNKNOWN.
@@ -41,14 +47,11 @@ pub fn crossover_svf_process(state: &mut [f32; 8], in_: &[f32], out: &mut [f32],
     ensures { Runs crossover_from crossover_fields (unknown_refusal last_mode mode) (each (crossover_next (mode_of mode))) (puts (crossover_out (mode_of mode)))
         state.old (within in_.now out.old) out.old result state.new out.new }
 {
-    if LAST_MODE < mode {
+    let Ok(mode) = FilterMode::try_from(mode) else {
         return UNKNOWN;
-    }
-    let s = filter_fields::crossover_svf_from(state).process(
-        in_,
-        out,
-        filter_fields::mode_of(mode),
-    );
-    *state = filter_fields::crossover_svf_fields(s);
+    };
+    let mut filter = CrossoverSvf::from(*state);
+    filter.process(in_, out, mode);
+    *state = filter.into();
     0
 }

@@ -3,7 +3,7 @@
 ghost use Rattle.std.specs.Prelude.{◌≡◌};
 ghost use Rattle.filter_core.specs.Buffer.{each, puts};
 ghost use Rattle.dc_blocker.specs.DcBlocker.{dc_new, dc_init, dc_next, dc_out};
-ghost use Rattle.filter_fields.specs.Fields.{dc_from, dc_fields};
+ghost use Rattle.dc_blocker.specs.Fields.{dc_from, dc_fields};
 ghost use Rattle.filter_exports.specs.Calls.{Filters};
 
 use dc_blocker::DcBlocker;
@@ -11,20 +11,22 @@ use dc_blocker::DcBlocker;
 pub fn dc_blocker_new(state: &mut [f32; 3])
     ensures { state.new ≡ dc_fields dc_new }
 {
-    *state = filter_fields::dc_blocker_fields(DcBlocker::new());
+    *state = DcBlocker::new().into();
 }
 
 pub fn dc_blocker_init(state: &mut [f32; 3], pole: f32)
     ensures { state.new ≡ dc_fields (dc_init (dc_from state.old) pole) }
 {
-    *state = filter_fields::dc_blocker_fields(filter_fields::dc_blocker_from(state).init(pole));
+    let mut filter = DcBlocker::from(*state);
+    filter.init(pole);
+    *state = filter.into();
 }
 
 pub fn dc_blocker_process(state: &mut [f32; 3], in_out: &mut [f32])
     ensures { Filters dc_from dc_fields (each dc_next) (puts dc_out)
         state.old in_out.old in_out.old state.new in_out.new }
 {
-    *state = filter_fields::dc_blocker_fields(filter_fields::dc_blocker_from(state).process(
-        in_out,
-    ));
+    let mut filter = DcBlocker::from(*state);
+    filter.process(in_out);
+    *state = filter.into();
 }

@@ -13,9 +13,3 @@ pub mod svf_calls;
 // The refusal of a number that names no mode, or no approximation. The refusal table of document 01 does not have it: there a mode is
 // one of four.
 pub(crate) const UNKNOWN: u8 = 100;
-
-// The largest number that names a mode, and that names an approximation. Such a number is as wide as C's int, so that 256 and -1 arrive
-// whole and are refused: a u8 would have cut 256 to 0, LowPass.
-pub(crate) const LAST_MODE: u32 = 3;
-
-pub(crate) const LAST_APPROXIMATION: u32 = 4;

@@ -3,37 +3,43 @@
 ghost use Rattle.std.specs.Prelude.{◌≡◌};
 ghost use Rattle.filter_core.specs.Buffer.{within, each, puts};
 ghost use Rattle.modified_svf.specs.ModifiedSvf.{modified_new, modified_init, modified_reset, modified_set_f_fq, modified_next, modified_out};
-ghost use Rattle.filter_fields.specs.Numbers.{last_mode, mode_of, unknown_refusal};
-ghost use Rattle.filter_fields.specs.Fields.{modified_from, modified_fields};
+ghost use Rattle.filter_core.specs.Numbers.{last_mode, mode_of};
+ghost use Rattle.filter_fields.specs.Numbers.{unknown_refusal};
+ghost use Rattle.modified_svf.specs.Fields.{modified_from, modified_fields};
 ghost use Rattle.filter_exports.specs.Calls.{Runs};
 
-use crate::{LAST_MODE, UNKNOWN};
+use crate::UNKNOWN;
+use filter_core::FilterMode;
 use modified_svf::ModifiedSvf;
 
 pub fn modified_svf_new(state: &mut [f32; 5])
     ensures { state.new ≡ modified_fields modified_new }
 {
-    *state = filter_fields::modified_svf_fields(ModifiedSvf::new());
+    *state = ModifiedSvf::new().into();
 }
 
 pub fn modified_svf_init(state: &mut [f32; 5])
     ensures { state.new ≡ modified_fields (modified_init (modified_from state.old)) }
 {
-    *state = filter_fields::modified_svf_fields(filter_fields::modified_svf_from(state).init());
+    let mut filter = ModifiedSvf::from(*state);
+    filter.init();
+    *state = filter.into();
 }
 
 pub fn modified_svf_reset(state: &mut [f32; 5])
     ensures { state.new ≡ modified_fields (modified_reset (modified_from state.old)) }
 {
-    *state = filter_fields::modified_svf_fields(filter_fields::modified_svf_from(state).reset());
+    let mut filter = ModifiedSvf::from(*state);
+    filter.reset();
+    *state = filter.into();
 }
 
 pub fn modified_svf_set_f_fq(state: &mut [f32; 5], f: f32, fq: f32)
     ensures { state.new ≡ modified_fields (modified_set_f_fq (modified_from state.old) f fq) }
 {
-    *state = filter_fields::modified_svf_fields(filter_fields::modified_svf_from(state).set_f_fq(
-        f, fq,
-    ));
+    let mut filter = ModifiedSvf::from(*state);
+    filter.set_f_fq(f, fq);
+    *state = filter.into();
 }
 
 // Refused with UNKNOWN.
@@ -41,10 +47,11 @@ pub fn modified_svf_process(state: &mut [f32; 5], in_: &[f32], out: &mut [f32], 
     ensures { Runs modified_from modified_fields (unknown_refusal last_mode mode) (each (modified_next (mode_of mode))) (puts (modified_out (mode_of mode)))
         state.old (within in_.now out.old) out.old result state.new out.new }
 {
-    if LAST_MODE < mode {
+    let Ok(mode) = FilterMode::try_from(mode) else {
         return UNKNOWN;
-    }
-    let s = filter_fields::modified_svf_from(state).process(in_, out, filter_fields::mode_of(mode));
-    *state = filter_fields::modified_svf_fields(s);
+    };
+    let mut filter = ModifiedSvf::from(*state);
+    filter.process(in_, out, mode);
+    *state = filter.into();
     0
 }

@@ -5,29 +5,35 @@ ghost use Rattle.filter_core.specs.Buffer.{within, each, puts, puts_due};
 ghost use Rattle.filter_core.specs.Refusal.{frequency_refusal, step_refusal};
 ghost use Rattle.naive_svf.specs.NaiveSvf.{naive_new, naive_init, naive_reset, naive_set_f_q, naive_next, naive_out, naive_low, naive_high};
 ghost use Rattle.filter_core.specs.Rows.{◌then◌};
-ghost use Rattle.filter_fields.specs.Numbers.{last_mode, last_approximation, mode_of, approximation_of, unknown_refusal};
-ghost use Rattle.filter_fields.specs.Fields.{naive_from, naive_fields};
+ghost use Rattle.filter_core.specs.Numbers.{last_mode, last_approximation, mode_of, approximation_of};
+ghost use Rattle.filter_fields.specs.Numbers.{unknown_refusal};
+ghost use Rattle.naive_svf.specs.Fields.{naive_from, naive_fields};
 ghost use Rattle.filter_exports.specs.Calls.{Sets, Answers, Runs, Filters};
 
-use crate::{LAST_APPROXIMATION, LAST_MODE, UNKNOWN};
+use crate::UNKNOWN;
+use filter_core::{FilterMode, FrequencyApproximation};
 use naive_svf::NaiveSvf;
 
 pub fn naive_svf_new(state: &mut [f32; 4])
     ensures { state.new ≡ naive_fields naive_new }
 {
-    *state = filter_fields::naive_svf_fields(NaiveSvf::new());
+    *state = NaiveSvf::new().into();
 }
 
 pub fn naive_svf_init(state: &mut [f32; 4])
     ensures { state.new ≡ naive_fields (naive_init (naive_from state.old)) }
 {
-    *state = filter_fields::naive_svf_fields(filter_fields::naive_svf_from(state).init());
+    let mut filter = NaiveSvf::from(*state);
+    filter.init();
+    *state = filter.into();
 }
 
 pub fn naive_svf_reset(state: &mut [f32; 4])
     ensures { state.new ≡ naive_fields (naive_reset (naive_from state.old)) }
 {
-    *state = filter_fields::naive_svf_fields(filter_fields::naive_svf_from(state).reset());
+    let mut filter = NaiveSvf::from(*state);
+    filter.reset();
+    *state = filter.into();
 }
 
 // Refused with UNKNOWN, then with 11 where Exact gets an f below -0.497.
@@ -35,31 +41,27 @@ pub fn naive_svf_set_f_q(state: &mut [f32; 4], f: f32, resonance: f32, approxima
     ensures { Sets (unknown_refusal last_approximation approximation then frequency_refusal f (approximation_of approximation))
         state.old (naive_fields (naive_set_f_q (naive_from state.old) f resonance (approximation_of approximation))) result state.new }
 {
-    if LAST_APPROXIMATION < approximation {
+    let Ok(approximation) = FrequencyApproximation::try_from(approximation) else {
         return UNKNOWN;
+    };
+    let mut filter = NaiveSvf::from(*state);
+    if let Err(refusal) = filter.set_f_q(f, resonance, approximation) {
+        return refusal.into();
     }
-    let t = filter_fields::naive_svf_from(state).set_f_q(
-        f,
-        resonance,
-        filter_fields::approximation_of(approximation),
-    );
-    if t.number != 0 {
-        return t.number;
-    }
-    *state = filter_fields::naive_svf_fields(t.filter);
+    *state = filter.into();
     0
 }
 
 pub fn naive_svf_lp(state: &[f32; 4]) -> f32
     ensures { result ≡ (naive_from state.now).lp }
 {
-    filter_fields::naive_svf_from(state).lp()
+    NaiveSvf::from(*state).lp()
 }
 
 pub fn naive_svf_bp(state: &[f32; 4]) -> f32
     ensures { result ≡ (naive_from state.now).bp }
 {
-    filter_fields::naive_svf_from(state).bp()
+    NaiveSvf::from(*state).bp()
 }
 
 // Refused with UNKNOWN, as each call below that takes a mode.
@@ -67,12 +69,12 @@ pub fn naive_svf_process(state: &mut [f32; 4], in_: f32, mode: u32, out: &mut f3
     ensures { Answers (unknown_refusal last_mode mode) state.old (naive_fields (naive_next (naive_from state.old) in_))
         out.old (naive_out (mode_of mode) (naive_from state.old) in_) result state.new out.new }
 {
-    if LAST_MODE < mode {
+    let Ok(mode) = FilterMode::try_from(mode) else {
         return UNKNOWN;
-    }
-    let t = filter_fields::naive_svf_from(state).process(in_, filter_fields::mode_of(mode));
-    *out = t.out;
-    *state = filter_fields::naive_svf_fields(t.filter);
+    };
+    let mut filter = NaiveSvf::from(*state);
+    *out = filter.process(in_, mode);
+    *state = filter.into();
     0
 }
 
@@ -80,15 +82,12 @@ pub fn naive_svf_process_buffer(state: &mut [f32; 4], in_: &[f32], out: &mut [f3
     ensures { Runs naive_from naive_fields (unknown_refusal last_mode mode) (each naive_next) (puts (naive_out (mode_of mode)))
         state.old (within in_.now out.old) out.old result state.new out.new }
 {
-    if LAST_MODE < mode {
+    let Ok(mode) = FilterMode::try_from(mode) else {
         return UNKNOWN;
-    }
-    let s = filter_fields::naive_svf_from(state).process_buffer(
-        in_,
-        out,
-        filter_fields::mode_of(mode),
-    );
-    *state = filter_fields::naive_svf_fields(s);
+    };
+    let mut filter = NaiveSvf::from(*state);
+    filter.process_buffer(in_, out, mode);
+    *state = filter.into();
     0
 }
 
@@ -98,9 +97,9 @@ pub fn naive_svf_split(state: &mut [f32; 4], in_: &[f32], low: &mut [f32], high:
     ensures highs { Filters naive_from naive_fields (each naive_next) (puts naive_high) state.old
         (within (within in_.now low.old) high.old) high.old state.new high.new }
 {
-    *state = filter_fields::naive_svf_fields(filter_fields::naive_svf_from(state).split(
-        in_, low, high,
-    ));
+    let mut filter = NaiveSvf::from(*state);
+    filter.split(in_, low, high);
+    *state = filter.into();
 }
 
 // Refused with UNKNOWN, then with 10 where decimate is 0.
@@ -114,18 +113,13 @@ pub fn naive_svf_process_decimate(
     ensures { Runs naive_from naive_fields (unknown_refusal last_mode mode then step_refusal decimate) (each naive_next) (puts_due decimate (naive_out (mode_of mode)))
         state.old (within in_.now out.old) out.old result state.new out.new }
 {
-    if LAST_MODE < mode {
+    let Ok(mode) = FilterMode::try_from(mode) else {
         return UNKNOWN;
+    };
+    let mut filter = NaiveSvf::from(*state);
+    if let Err(refusal) = filter.process_decimate(in_, out, decimate, mode) {
+        return refusal.into();
     }
-    let t = filter_fields::naive_svf_from(state).process_decimate(
-        in_,
-        out,
-        decimate,
-        filter_fields::mode_of(mode),
-    );
-    if t.number != 0 {
-        return t.number;
-    }
-    *state = filter_fields::naive_svf_fields(t.filter);
+    *state = filter.into();
     0
 }

@@ -5,29 +5,35 @@ ghost use Rattle.filter_core.specs.Refusal.{frequency_refusal};
 ghost use Rattle.one_pole.specs.Tangent.{tan_of};
 ghost use Rattle.one_pole.specs.OnePole.{one_pole_new, one_pole_init, one_pole_reset, one_pole_set_f, one_pole_next, one_pole_out};
 ghost use Rattle.filter_core.specs.Rows.{◌then◌};
-ghost use Rattle.filter_fields.specs.Numbers.{last_mode, last_approximation, mode_of, approximation_of, unknown_refusal};
-ghost use Rattle.filter_fields.specs.Fields.{one_pole_from, one_pole_fields};
+ghost use Rattle.filter_core.specs.Numbers.{last_mode, last_approximation, mode_of, approximation_of};
+ghost use Rattle.filter_fields.specs.Numbers.{unknown_refusal};
+ghost use Rattle.one_pole.specs.Fields.{one_pole_from, one_pole_fields};
 ghost use Rattle.filter_exports.specs.Calls.{Gives, Sets, Answers};
 
-use crate::{LAST_APPROXIMATION, LAST_MODE, UNKNOWN};
+use crate::UNKNOWN;
+use filter_core::{FilterMode, FrequencyApproximation};
 use one_pole::OnePole;
 
 pub fn one_pole_new(state: &mut [f32; 3])
     ensures { state.new ≡ one_pole_fields one_pole_new }
 {
-    *state = filter_fields::one_pole_fields(OnePole::new());
+    *state = OnePole::new().into();
 }
 
 pub fn one_pole_init(state: &mut [f32; 3])
     ensures { state.new ≡ one_pole_fields (one_pole_init (one_pole_from state.old)) }
 {
-    *state = filter_fields::one_pole_fields(filter_fields::one_pole_from(state).init());
+    let mut filter = OnePole::from(*state);
+    filter.init();
+    *state = filter.into();
 }
 
 pub fn one_pole_reset(state: &mut [f32; 3])
     ensures { state.new ≡ one_pole_fields (one_pole_reset (one_pole_from state.old)) }
 {
-    *state = filter_fields::one_pole_fields(filter_fields::one_pole_from(state).reset());
+    let mut filter = OnePole::from(*state);
+    filter.reset();
+    *state = filter.into();
 }
 
 // Refused with UNKNOWN, then with 11 where Exact gets an f below -0.497.
@@ -35,10 +41,10 @@ pub fn one_pole_tan(f: f32, approximation: u32, value: &mut f32) -> u8
     ensures { Gives (unknown_refusal last_approximation approximation then frequency_refusal f (approximation_of approximation))
         value.old (tan_of f (approximation_of approximation)) result value.new }
 {
-    if LAST_APPROXIMATION < approximation {
+    let Ok(approximation) = FrequencyApproximation::try_from(approximation) else {
         return UNKNOWN;
-    }
-    let t = OnePole::tan(f, filter_fields::approximation_of(approximation));
+    };
+    let t = OnePole::tan(f, approximation);
     if t.number != 0 {
         return t.number;
     }
@@ -51,17 +57,14 @@ pub fn one_pole_set_f(state: &mut [f32; 3], f: f32, approximation: u32) -> u8
     ensures { Sets (unknown_refusal last_approximation approximation then frequency_refusal f (approximation_of approximation))
         state.old (one_pole_fields (one_pole_set_f (one_pole_from state.old) f (approximation_of approximation))) result state.new }
 {
-    if LAST_APPROXIMATION < approximation {
+    let Ok(approximation) = FrequencyApproximation::try_from(approximation) else {
         return UNKNOWN;
+    };
+    let mut filter = OnePole::from(*state);
+    if let Err(refusal) = filter.set_f(f, approximation) {
+        return refusal.into();
     }
-    let t = filter_fields::one_pole_from(state).set_f(
-        f,
-        filter_fields::approximation_of(approximation),
-    );
-    if t.number != 0 {
-        return t.number;
-    }
-    *state = filter_fields::one_pole_fields(t.filter);
+    *state = filter.into();
     0
 }
 
@@ -70,11 +73,11 @@ pub fn one_pole_process(state: &mut [f32; 3], in_: f32, mode: u32, out: &mut f32
     ensures { Answers (unknown_refusal last_mode mode) state.old (one_pole_fields (one_pole_next (one_pole_from state.old) in_))
         out.old (one_pole_out (mode_of mode) (one_pole_from state.old) in_) result state.new out.new }
 {
-    if LAST_MODE < mode {
+    let Ok(mode) = FilterMode::try_from(mode) else {
         return UNKNOWN;
-    }
-    let t = filter_fields::one_pole_from(state).process(in_, filter_fields::mode_of(mode));
-    *out = t.out;
-    *state = filter_fields::one_pole_fields(t.filter);
+    };
+    let mut filter = OnePole::from(*state);
+    *out = filter.process(in_, mode);
+    *state = filter.into();
     0
 }

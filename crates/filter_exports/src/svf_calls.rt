@@ -6,55 +6,67 @@ ghost use Rattle.filter_core.specs.Refusal.{frequency_refusal, step_refusal};
 ghost use Rattle.svf.specs.Svf.{svf_new, svf_init, svf_reset, svf_set, svf_set_g_r_h, svf_set_g_r, svf_set_g_q, svf_set_f_q};
 ghost use Rattle.svf.specs.Svf.{svf_next, svf_out, svf_gained, svf_multimode};
 ghost use Rattle.filter_core.specs.Rows.{◌then◌};
-ghost use Rattle.filter_fields.specs.Numbers.{last_mode, last_approximation, mode_of, approximation_of, unknown_refusal};
-ghost use Rattle.filter_fields.specs.Fields.{svf_from, svf_fields};
+ghost use Rattle.filter_core.specs.Numbers.{last_mode, last_approximation, mode_of, approximation_of};
+ghost use Rattle.filter_fields.specs.Numbers.{unknown_refusal};
+ghost use Rattle.svf.specs.Fields.{svf_from, svf_fields};
 ghost use Rattle.filter_exports.specs.Calls.{Sets, Answers, Runs, Filters};
 
-use crate::{LAST_APPROXIMATION, LAST_MODE, UNKNOWN};
+use crate::UNKNOWN;
+use filter_core::{FilterMode, FrequencyApproximation};
 use svf::Svf;
 
 pub fn svf_new(state: &mut [f32; 5])
     ensures { state.new ≡ svf_fields svf_new }
 {
-    *state = filter_fields::svf_fields(Svf::new());
+    *state = Svf::new().into();
 }
 
 pub fn svf_init(state: &mut [f32; 5])
     ensures { state.new ≡ svf_fields (svf_init (svf_from state.old)) }
 {
-    *state = filter_fields::svf_fields(filter_fields::svf_from(state).init());
+    let mut filter = Svf::from(*state);
+    filter.init();
+    *state = filter.into();
 }
 
 pub fn svf_reset(state: &mut [f32; 5])
     ensures { state.new ≡ svf_fields (svf_reset (svf_from state.old)) }
 {
-    *state = filter_fields::svf_fields(filter_fields::svf_from(state).reset());
+    let mut filter = Svf::from(*state);
+    filter.reset();
+    *state = filter.into();
 }
 
 pub fn svf_set(state: &mut [f32; 5], other: &[f32; 5])
     ensures { state.new ≡ svf_fields (svf_set (svf_from state.old) (svf_from other.now)) }
 {
-    *state = filter_fields::svf_fields(filter_fields::svf_from(state).set(filter_fields::svf_from(
-        other,
-    )));
+    let mut filter = Svf::from(*state);
+    filter.set(&Svf::from(*other));
+    *state = filter.into();
 }
 
 pub fn svf_set_g_r_h(state: &mut [f32; 5], g: f32, r: f32, h: f32)
     ensures { state.new ≡ svf_fields (svf_set_g_r_h (svf_from state.old) g r h) }
 {
-    *state = filter_fields::svf_fields(filter_fields::svf_from(state).set_g_r_h(g, r, h));
+    let mut filter = Svf::from(*state);
+    filter.set_g_r_h(g, r, h);
+    *state = filter.into();
 }
 
 pub fn svf_set_g_r(state: &mut [f32; 5], g: f32, r: f32)
     ensures { state.new ≡ svf_fields (svf_set_g_r (svf_from state.old) g r) }
 {
-    *state = filter_fields::svf_fields(filter_fields::svf_from(state).set_g_r(g, r));
+    let mut filter = Svf::from(*state);
+    filter.set_g_r(g, r);
+    *state = filter.into();
 }
 
 pub fn svf_set_g_q(state: &mut [f32; 5], g: f32, resonance: f32)
     ensures { state.new ≡ svf_fields (svf_set_g_q (svf_from state.old) g resonance) }
 {
-    *state = filter_fields::svf_fields(filter_fields::svf_from(state).set_g_q(g, resonance));
+    let mut filter = Svf::from(*state);
+    filter.set_g_q(g, resonance);
+    *state = filter.into();
 }
 
 // Refused with UNKNOWN, then with 11 where Exact gets an f below -0.497.
@@ -62,37 +74,33 @@ pub fn svf_set_f_q(state: &mut [f32; 5], f: f32, resonance: f32, approximation: 
     ensures { Sets (unknown_refusal last_approximation approximation then frequency_refusal f (approximation_of approximation))
         state.old (svf_fields (svf_set_f_q (svf_from state.old) f resonance (approximation_of approximation))) result state.new }
 {
-    if LAST_APPROXIMATION < approximation {
+    let Ok(approximation) = FrequencyApproximation::try_from(approximation) else {
         return UNKNOWN;
+    };
+    let mut filter = Svf::from(*state);
+    if let Err(refusal) = filter.set_f_q(f, resonance, approximation) {
+        return refusal.into();
     }
-    let t = filter_fields::svf_from(state).set_f_q(
-        f,
-        resonance,
-        filter_fields::approximation_of(approximation),
-    );
-    if t.number != 0 {
-        return t.number;
-    }
-    *state = filter_fields::svf_fields(t.filter);
+    *state = filter.into();
     0
 }
 
 pub fn svf_g(state: &[f32; 5]) -> f32
     ensures { result ≡ (svf_from state.now).g }
 {
-    filter_fields::svf_from(state).g()
+    Svf::from(*state).g()
 }
 
 pub fn svf_r(state: &[f32; 5]) -> f32
     ensures { result ≡ (svf_from state.now).r }
 {
-    filter_fields::svf_from(state).r()
+    Svf::from(*state).r()
 }
 
 pub fn svf_h(state: &[f32; 5]) -> f32
     ensures { result ≡ (svf_from state.now).h }
 {
-    filter_fields::svf_from(state).h()
+    Svf::from(*state).h()
 }
 
 // Refused with UNKNOWN, as each call below that takes a mode.
@@ -100,12 +108,12 @@ pub fn svf_process(state: &mut [f32; 5], in_: f32, mode: u32, out: &mut f32) -> 
     ensures { Answers (unknown_refusal last_mode mode) state.old (svf_fields (svf_next (svf_from state.old) in_))
         out.old (svf_out (mode_of mode) (svf_from state.old) in_) result state.new out.new }
 {
-    if LAST_MODE < mode {
+    let Ok(mode) = FilterMode::try_from(mode) else {
         return UNKNOWN;
-    }
-    let t = filter_fields::svf_from(state).process(in_, filter_fields::mode_of(mode));
-    *out = t.out;
-    *state = filter_fields::svf_fields(t.filter);
+    };
+    let mut filter = Svf::from(*state);
+    *out = filter.process(in_, mode);
+    *state = filter.into();
     0
 }
 
@@ -122,20 +130,15 @@ pub fn svf_process_dual(
     ensures second { Answers (unknown_refusal last_mode mode_1 then unknown_refusal last_mode mode_2) state.old (svf_fields (svf_next (svf_from state.old) in_))
         out_2.old (svf_out (mode_of mode_2) (svf_from state.old) in_) result state.new out_2.new }
 {
-    if LAST_MODE < mode_1 {
+    let Ok(mode_1) = FilterMode::try_from(mode_1) else {
         return UNKNOWN;
-    }
-    if LAST_MODE < mode_2 {
+    };
+    let Ok(mode_2) = FilterMode::try_from(mode_2) else {
         return UNKNOWN;
-    }
-    let s = filter_fields::svf_from(state).process_dual(
-        in_,
-        out_1,
-        out_2,
-        filter_fields::mode_of(mode_1),
-        filter_fields::mode_of(mode_2),
-    );
-    *state = filter_fields::svf_fields(s);
+    };
+    let mut filter = Svf::from(*state);
+    filter.process_dual(in_, out_1, out_2, mode_1, mode_2);
+    *state = filter.into();
     0
 }
 
@@ -143,11 +146,12 @@ pub fn svf_process_buffer(state: &mut [f32; 5], in_: &[f32], out: &mut [f32], mo
     ensures { Runs svf_from svf_fields (unknown_refusal last_mode mode) (each svf_next) (puts (svf_out (mode_of mode)))
         state.old (within in_.now out.old) out.old result state.new out.new }
 {
-    if LAST_MODE < mode {
+    let Ok(mode) = FilterMode::try_from(mode) else {
         return UNKNOWN;
-    }
-    let s = filter_fields::svf_from(state).process_buffer(in_, out, filter_fields::mode_of(mode));
-    filter_fields::svf_retain(state, s);
+    };
+    let mut filter = Svf::from(*state);
+    filter.process_buffer(in_, out, mode);
+    filter_fields::svf_retain(state, filter);
     0
 }
 
@@ -162,16 +166,12 @@ pub fn svf_process_add_buffer(
     ensures { Runs svf_from svf_fields (unknown_refusal last_mode mode) (each svf_next) (puts (svf_gained (mode_of mode) gain))
         state.old (within in_.now out.old) out.old result state.new out.new }
 {
-    if LAST_MODE < mode {
+    let Ok(mode) = FilterMode::try_from(mode) else {
         return UNKNOWN;
-    }
-    let s = filter_fields::svf_from(state).process_add_buffer(
-        in_,
-        out,
-        gain,
-        filter_fields::mode_of(mode),
-    );
-    filter_fields::svf_retain(state, s);
+    };
+    let mut filter = Svf::from(*state);
+    filter.process_add_buffer(in_, out, gain, mode);
+    filter_fields::svf_retain(state, filter);
     0
 }
 
@@ -186,19 +186,14 @@ pub fn svf_process_stride_buffer(
     ensures { Runs svf_from svf_fields (unknown_refusal last_mode mode then step_refusal stride) (each_due stride svf_next) (puts_due stride (svf_out (mode_of mode)))
         state.old (within in_.now out.old) out.old result state.new out.new }
 {
-    if LAST_MODE < mode {
+    let Ok(mode) = FilterMode::try_from(mode) else {
         return UNKNOWN;
+    };
+    let mut filter = Svf::from(*state);
+    if let Err(refusal) = filter.process_stride_buffer(in_, out, stride, mode) {
+        return refusal.into();
     }
-    let t = filter_fields::svf_from(state).process_stride_buffer(
-        in_,
-        out,
-        stride,
-        filter_fields::mode_of(mode),
-    );
-    if t.number != 0 {
-        return t.number;
-    }
-    filter_fields::svf_retain(state, t.filter);
+    filter_fields::svf_retain(state, filter);
     0
 }
 
@@ -206,8 +201,9 @@ pub fn svf_process_multimode_buffer(state: &mut [f32; 5], in_: &[f32], out: &mut
     ensures { Filters svf_from svf_fields (each svf_next) (puts (svf_multimode mode))
         state.old (within in_.now out.old) out.old state.new out.new }
 {
-    let s = filter_fields::svf_from(state).process_multimode_buffer(in_, out, mode);
-    filter_fields::svf_retain(state, s);
+    let mut filter = Svf::from(*state);
+    filter.process_multimode_buffer(in_, out, mode);
+    filter_fields::svf_retain(state, filter);
 }
 
 pub fn svf_process_add_dual_buffer(
@@ -224,17 +220,11 @@ pub fn svf_process_add_dual_buffer(
     ensures second { Runs svf_from svf_fields (unknown_refusal last_mode mode) (each svf_next) (puts (svf_gained (mode_of mode) gain_2)) state.old
         (within (within in_.now out_1.old) out_2.old) out_2.old result state.new out_2.new }
 {
-    if LAST_MODE < mode {
+    let Ok(mode) = FilterMode::try_from(mode) else {
         return UNKNOWN;
-    }
-    let s = filter_fields::svf_from(state).process_add_dual_buffer(
-        in_,
-        out_1,
-        out_2,
-        gain_1,
-        gain_2,
-        filter_fields::mode_of(mode),
-    );
-    filter_fields::svf_retain(state, s);
+    };
+    let mut filter = Svf::from(*state);
+    filter.process_add_dual_buffer(in_, out_1, out_2, gain_1, gain_2, mode);
+    filter_fields::svf_retain(state, filter);
     0
 }

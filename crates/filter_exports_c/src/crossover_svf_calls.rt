@@ -3,8 +3,9 @@
 ghost use Rattle.std.specs.Prelude.{◌≡◌};
 ghost use Rattle.filter_core.specs.Buffer.{within, each, puts};
 ghost use Rattle.crossover_svf.specs.CrossoverSvf.{crossover_new, crossover_init, crossover_reset, crossover_set_f_fq, crossover_next, crossover_out};
-ghost use Rattle.filter_fields.specs.Numbers.{last_mode, mode_of, unknown_refusal};
-ghost use Rattle.filter_fields.specs.Fields.{crossover_from, crossover_fields};
+ghost use Rattle.filter_core.specs.Numbers.{last_mode, mode_of};
+ghost use Rattle.filter_fields.specs.Numbers.{unknown_refusal};
+ghost use Rattle.crossover_svf.specs.Fields.{crossover_from, crossover_fields};
 ghost use Rattle.filter_exports.specs.Calls.{Runs};
 
 #[unsafe(no_mangle)]

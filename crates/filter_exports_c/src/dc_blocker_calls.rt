@@ -3,7 +3,7 @@
 ghost use Rattle.std.specs.Prelude.{◌≡◌};
 ghost use Rattle.filter_core.specs.Buffer.{each, puts};
 ghost use Rattle.dc_blocker.specs.DcBlocker.{dc_new, dc_init, dc_next, dc_out};
-ghost use Rattle.filter_fields.specs.Fields.{dc_from, dc_fields};
+ghost use Rattle.dc_blocker.specs.Fields.{dc_from, dc_fields};
 ghost use Rattle.filter_exports.specs.Calls.{Filters};
 
 #[unsafe(no_mangle)]

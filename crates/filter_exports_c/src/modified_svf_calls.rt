@@ -3,8 +3,9 @@
 ghost use Rattle.std.specs.Prelude.{◌≡◌};
 ghost use Rattle.filter_core.specs.Buffer.{within, each, puts};
 ghost use Rattle.modified_svf.specs.ModifiedSvf.{modified_new, modified_init, modified_reset, modified_set_f_fq, modified_next, modified_out};
-ghost use Rattle.filter_fields.specs.Numbers.{last_mode, mode_of, unknown_refusal};
-ghost use Rattle.filter_fields.specs.Fields.{modified_from, modified_fields};
+ghost use Rattle.filter_core.specs.Numbers.{last_mode, mode_of};
+ghost use Rattle.filter_fields.specs.Numbers.{unknown_refusal};
+ghost use Rattle.modified_svf.specs.Fields.{modified_from, modified_fields};
 ghost use Rattle.filter_exports.specs.Calls.{Runs};
 
 #[unsafe(no_mangle)]

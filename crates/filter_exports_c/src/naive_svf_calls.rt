@@ -5,8 +5,9 @@ ghost use Rattle.filter_core.specs.Buffer.{within, each, puts, puts_due};
 ghost use Rattle.filter_core.specs.Refusal.{frequency_refusal, step_refusal};
 ghost use Rattle.naive_svf.specs.NaiveSvf.{naive_new, naive_init, naive_reset, naive_set_f_q, naive_next, naive_out, naive_low, naive_high};
 ghost use Rattle.filter_core.specs.Rows.{◌then◌};
-ghost use Rattle.filter_fields.specs.Numbers.{last_mode, last_approximation, mode_of, approximation_of, unknown_refusal};
-ghost use Rattle.filter_fields.specs.Fields.{naive_from, naive_fields};
+ghost use Rattle.filter_core.specs.Numbers.{last_mode, last_approximation, mode_of, approximation_of};
+ghost use Rattle.filter_fields.specs.Numbers.{unknown_refusal};
+ghost use Rattle.naive_svf.specs.Fields.{naive_from, naive_fields};
 ghost use Rattle.filter_exports.specs.Calls.{Sets, Answers, Runs, Filters};
 
 #[unsafe(no_mangle)]

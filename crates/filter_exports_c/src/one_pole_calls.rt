@@ -5,8 +5,9 @@ ghost use Rattle.filter_core.specs.Refusal.{frequency_refusal};
 ghost use Rattle.one_pole.specs.Tangent.{tan_of};
 ghost use Rattle.one_pole.specs.OnePole.{one_pole_new, one_pole_init, one_pole_reset, one_pole_set_f, one_pole_next, one_pole_out};
 ghost use Rattle.filter_core.specs.Rows.{◌then◌};
-ghost use Rattle.filter_fields.specs.Numbers.{last_mode, last_approximation, mode_of, approximation_of, unknown_refusal};
-ghost use Rattle.filter_fields.specs.Fields.{one_pole_from, one_pole_fields};
+ghost use Rattle.filter_core.specs.Numbers.{last_mode, last_approximation, mode_of, approximation_of};
+ghost use Rattle.filter_fields.specs.Numbers.{unknown_refusal};
+ghost use Rattle.one_pole.specs.Fields.{one_pole_from, one_pole_fields};
 ghost use Rattle.filter_exports.specs.Calls.{Gives, Sets, Answers};
 
 #[unsafe(no_mangle)]

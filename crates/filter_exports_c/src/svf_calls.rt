@@ -6,8 +6,9 @@ ghost use Rattle.filter_core.specs.Refusal.{frequency_refusal, step_refusal};
 ghost use Rattle.svf.specs.Svf.{svf_new, svf_init, svf_reset, svf_set, svf_set_g_r_h, svf_set_g_r, svf_set_g_q, svf_set_f_q};
 ghost use Rattle.svf.specs.Svf.{svf_next, svf_out, svf_gained, svf_multimode};
 ghost use Rattle.filter_core.specs.Rows.{◌then◌};
-ghost use Rattle.filter_fields.specs.Numbers.{last_mode, last_approximation, mode_of, approximation_of, unknown_refusal};
-ghost use Rattle.filter_fields.specs.Fields.{svf_from, svf_fields};
+ghost use Rattle.filter_core.specs.Numbers.{last_mode, last_approximation, mode_of, approximation_of};
+ghost use Rattle.filter_fields.specs.Numbers.{unknown_refusal};
+ghost use Rattle.svf.specs.Fields.{svf_from, svf_fields};
 ghost use Rattle.filter_exports.specs.Calls.{Sets, Answers, Runs, Filters};
 
 #[unsafe(no_mangle)]

@@ -1,24 +1,6 @@
--- Modes and approximations by number, in their order of declaration, and the refusal of a number that names none.
-use Rattle.std.specs.Prelude.{ℕ, cond, eqb, leb}
-use Rattle.filter_core.specs.declared.FilterMode.{FilterMode}
-use Rattle.filter_core.specs.declared.FilterMode.TheVariants.{LowPass, BandPass, BandPassNormalized, HighPass}
-use Rattle.filter_core.specs.declared.FrequencyApproximation.{FrequencyApproximation}
-use Rattle.filter_core.specs.declared.FrequencyApproximation.TheVariants.{Exact, Accurate, Fast, Dirty, Series}
+-- The refusal of a number that names no mode, or no approximation.
+use Rattle.std.specs.Prelude.{ℕ, cond, leb}
 
-abbrev pub last_mode : ℕ
-last_mode = 3
-
--- 4 is 02 a's
-abbrev pub last_approximation : ℕ
-last_approximation = 4
-
--- a call with a number above the last is refused before the mode or the approximation is used
-abbrev pub mode_of : ℕ → FilterMode
-mode_of n = cond (eqb n 0) LowPass (cond (eqb n 1) BandPass (cond (eqb n 2) BandPassNormalized HighPass))
-
-abbrev pub approximation_of : ℕ → FrequencyApproximation
-approximation_of n = cond (eqb n 0) Exact (cond (eqb n 1) Accurate (cond (eqb n 2) Fast (cond (eqb n 3) Dirty Series)))
-
--- the number is above the last, so that it names no mode, or no approximation. 100 is not in document 01's table
+-- the number is above the last. 100 is not in document 01's table: there a mode is one of four
 abbrev pub unknown_refusal : ℕ → ℕ → ℕ
 unknown_refusal last n = cond (leb n last) 0 100
