@@ -44,12 +44,13 @@ pub fn one_pole_tan(f: f32, approximation: u32, value: &mut f32) -> u8
     let Ok(approximation) = FrequencyApproximation::try_from(approximation) else {
         return UNKNOWN;
     };
-    let t = OnePole::tan(f, approximation);
-    if t.number != 0 {
-        return t.number;
+    match OnePole::tan(f, approximation) {
+        Ok(tangent) => {
+            *value = tangent;
+            0
+        }
+        Err(refusal) => refusal.into(),
     }
-    *value = t.value;
-    0
 }
 
 // Refused as one_pole_tan is.
