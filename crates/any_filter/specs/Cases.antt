@@ -1,85 +1,57 @@
--- The six filters as one type, with each filter's fields carried singly.
-use Rattle.std.specs.Prelude.{[], ◌∷◌, Float, get_or}
-use Rattle.std.specs.Float.{nan}
+-- The six filters as one type.
+use Rattle.std.specs.Prelude.{[], ◌∷◌}
 use Rattle.filter_core.specs.Arithmetic.{zeroᶠ}
+use Rattle.filter_core.specs.Fields.{field}
+use Rattle.dc_blocker.specs.DcBlocker.{dc_init}
 use Rattle.one_pole.specs.OnePole.{one_pole_reset}
 use Rattle.svf.specs.Svf.{svf_reset}
 use Rattle.naive_svf.specs.NaiveSvf.{naive_reset}
 use Rattle.modified_svf.specs.ModifiedSvf.{modified_reset}
 use Rattle.crossover_svf.specs.CrossoverSvf.{crossover_reset}
-use Rattle.dc_blocker.specs.declared.DcBlocker.{DcBlocker}
-use Rattle.one_pole.specs.declared.OnePole.{OnePole as OnePoleFilter}
-use Rattle.svf.specs.declared.Svf.{Svf as SvfFilter}
-use Rattle.naive_svf.specs.declared.NaiveSvf.{NaiveSvf}
-use Rattle.modified_svf.specs.declared.ModifiedSvf.{ModifiedSvf}
-use Rattle.crossover_svf.specs.declared.CrossoverSvf.{CrossoverSvf}
+use Rattle.modified_svf.specs.declared.ModifiedSvf.{ModifiedSvf as ModifiedFilter}
+use Rattle.crossover_svf.specs.declared.CrossoverSvf.{CrossoverSvf as CrossoverFilter}
+use Rattle.any_filter.specs.declared.Passes.{Passes}
 use Rattle.any_filter.specs.declared.FilterType.{FilterType}
 use Rattle.any_filter.specs.declared.FilterType.TheVariants as type
 use Rattle.any_filter.specs.declared.Filter.{Filter}
-use Rattle.any_filter.specs.declared.Filter.TheVariants.{Dc, OnePole, Svf, Naive, Modified, Crossover}
+use Rattle.any_filter.specs.declared.Filter.TheVariants.{DcBlocker, OnePole, Svf, NaiveSvf, ModifiedSvf, CrossoverSvf}
 
 -- the type of a filter: the kind of a head in document 01
 abbrev pub type_of : Filter → FilterType
-type_of (Dc pole x y) = type.DcBlocker
-type_of (OnePole g gi state) = type.OnePole
-type_of (Svf g r h s t) = type.Svf
-type_of (Naive f damp lp bp) = type.NaiveSvf
-type_of (Modified f fq x lp bp) = type.ModifiedSvf
-type_of (Crossover f fq x₀ x₁ lp₀ lp₁ bp₀ bp₁) = type.CrossoverSvf
+type_of (DcBlocker s) = type.DcBlocker
+type_of (OnePole s) = type.OnePole
+type_of (Svf s) = type.Svf
+type_of (NaiveSvf s) = type.NaiveSvf
+type_of (ModifiedSvf s) = type.ModifiedSvf
+type_of (CrossoverSvf s) = type.CrossoverSvf
 
--- ---- a filter of each type as a case
+-- a crossover filter with the members of its arrays singly, and back
+abbrev pub passes_of : CrossoverFilter → Passes
+passes_of s =
+    record {
+      f = s.f;
+      fq = s.fq;
+      x_0 = field s.x 0;
+      x_1 = field s.x 1;
+      lp_0 = field s.lp 0;
+      lp_1 = field s.lp 1;
+      bp_0 = field s.bp 0;
+      bp_1 = field s.bp 1;
+    }
 
-abbrev pub of_dc : DcBlocker → Filter
-of_dc s = Dc s.pole s.x s.y
+abbrev pub crossover_from : Passes → CrossoverFilter
+crossover_from p = record { f = p.f; fq = p.fq; x = p.x_0 ∷ p.x_1 ∷ []; lp = p.lp_0 ∷ p.lp_1 ∷ []; bp = p.bp_0 ∷ p.bp_1 ∷ [] }
 
-abbrev pub of_one_pole : OnePoleFilter → Filter
-of_one_pole s = OnePole s.g s.gi s.state
-
-abbrev pub of_svf : SvfFilter → Filter
-of_svf s = Svf s.g s.r s.h s.state_1 s.state_2
-
-abbrev pub of_naive : NaiveSvf → Filter
-of_naive s = Naive s.f s.damp s.lp s.bp
-
-abbrev pub of_modified : ModifiedSvf → Filter
-of_modified s = Modified s.f s.fq s.x s.lp s.bp
-
-abbrev pub of_crossover : CrossoverSvf → Filter
-of_crossover s =
-    Crossover s.f s.fq (get_or s.x 0 nan) (get_or s.x 1 nan) (get_or s.lp 0 nan) (get_or s.lp 1 nan) (get_or s.bp 0 nan)
-    (get_or s.bp 1 nan)
-
--- ---- and the fields of each case as a filter
-
-abbrev pub dc_from : Float → Float → Float → DcBlocker
-dc_from pole x y = record { pole = pole; x = x; y = y }
-
-abbrev pub one_pole_from : Float → Float → Float → OnePoleFilter
-one_pole_from g gi state = record { g = g; gi = gi; state = state }
-
-abbrev pub svf_from : Float → Float → Float → Float → Float → SvfFilter
-svf_from g r h s t = record { g = g; r = r; h = h; state_1 = s; state_2 = t }
-
-abbrev pub naive_from : Float → Float → Float → Float → NaiveSvf
-naive_from f damp lp bp = record { f = f; damp = damp; lp = lp; bp = bp }
-
-abbrev pub modified_from : Float → Float → Float → Float → Float → ModifiedSvf
-modified_from f fq x lp bp = record { f = f; fq = fq; x = x; lp = lp; bp = bp }
-
-abbrev pub crossover_from : Float → Float → Float → Float → Float → Float → Float → Float → CrossoverSvf
-crossover_from f fq x₀ x₁ lp₀ lp₁ bp₀ bp₁ =
-    record { f = f; fq = fq; x = x₀ ∷ x₁ ∷ []; lp = lp₀ ∷ lp₁ ∷ []; bp = bp₀ ∷ bp₁ ∷ [] }
-
--- the same with x = 0: the last sample is forgotten
-abbrev pub without_last : ModifiedSvf → ModifiedSvf
+-- a modified filter with x = 0: the last sample is forgotten
+abbrev pub without_last : ModifiedFilter → ModifiedFilter
 without_last s = record { f = s.f; fq = s.fq; x = zeroᶠ; lp = s.lp; bp = s.bp }
 
 -- Rest in the frame: the type's own reset; of the DC blocker, which has none, x and y become 0. The modified filter's reset leaves the last
 -- sample, so x = 0 follows it (document 02, e).
-unfoldable pub rested : Filter → Filter
-rested (Dc pole x y) = Dc pole zeroᶠ zeroᶠ
-rested (OnePole g gi state) = of_one_pole (one_pole_reset (one_pole_from g gi state))
-rested (Svf g r h s t) = of_svf (svf_reset (svf_from g r h s t))
-rested (Naive f damp lp bp) = of_naive (naive_reset (naive_from f damp lp bp))
-rested (Modified f fq x lp bp) = of_modified (without_last (modified_reset (modified_from f fq x lp bp)))
-rested (Crossover f fq x₀ x₁ lp₀ lp₁ bp₀ bp₁) = of_crossover (crossover_reset (crossover_from f fq x₀ x₁ lp₀ lp₁ bp₀ bp₁))
+abbrev pub rested : Filter → Filter
+rested (DcBlocker s) = DcBlocker (dc_init s s.pole)
+rested (OnePole s) = OnePole (one_pole_reset s)
+rested (Svf s) = Svf (svf_reset s)
+rested (NaiveSvf s) = NaiveSvf (naive_reset s)
+rested (ModifiedSvf s) = ModifiedSvf (without_last (modified_reset s))
+rested (CrossoverSvf p) = CrossoverSvf (passes_of (crossover_reset (crossover_from p)))

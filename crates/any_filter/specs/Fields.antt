@@ -1,12 +1,17 @@
 -- A filter as its type and a row of eight numbers: the fields in the order of their declaration, zeros behind.
-use Rattle.std.specs.Prelude.{ℕ, ◌≡◌, List, [], ◌∷◌, Float, get_or}
-use Rattle.std.specs.Float.{nan}
+use Rattle.std.specs.Prelude.{ℕ, ◌-◌, ◌≡◌, List, ◌++◌, Float, replicate}
 use Rattle.filter_core.specs.Arithmetic.{zeroᶠ}
-use Rattle.any_filter.specs.Cases.{type_of}
+use Rattle.dc_blocker.specs.Fields.{dc_from, dc_fields}
+use Rattle.one_pole.specs.Fields.{one_pole_from, one_pole_fields}
+use Rattle.svf.specs.Fields.{svf_from, svf_fields}
+use Rattle.naive_svf.specs.Fields.{naive_from, naive_fields}
+use Rattle.modified_svf.specs.Fields.{modified_from, modified_fields}
+use Rattle.crossover_svf.specs.Fields as crossover
+use Rattle.any_filter.specs.Cases.{passes_of, crossover_from, type_of}
 use Rattle.any_filter.specs.declared.FilterType.{FilterType}
 use Rattle.any_filter.specs.declared.FilterType.TheVariants as type
 use Rattle.any_filter.specs.declared.Filter.{Filter}
-use Rattle.any_filter.specs.declared.Filter.TheVariants.{Dc, OnePole, Svf, Naive, Modified, Crossover}
+use Rattle.any_filter.specs.declared.Filter.TheVariants.{DcBlocker, OnePole, Svf, NaiveSvf, ModifiedSvf, CrossoverSvf}
 
 -- 1 to 6, in document 01's order of the types
 abbrev pub type_number : FilterType → ℕ
@@ -25,25 +30,25 @@ field_count type.NaiveSvf = 4
 field_count type.ModifiedSvf = 5
 field_count type.CrossoverSvf = 8
 
-abbrev pub fields_of : Filter → List Float
-fields_of (Dc pole x y) = pole ∷ x ∷ y ∷ zeroᶠ ∷ zeroᶠ ∷ zeroᶠ ∷ zeroᶠ ∷ zeroᶠ ∷ []
-fields_of (OnePole g gi state) = g ∷ gi ∷ state ∷ zeroᶠ ∷ zeroᶠ ∷ zeroᶠ ∷ zeroᶠ ∷ zeroᶠ ∷ []
-fields_of (Svf g r h s t) = g ∷ r ∷ h ∷ s ∷ t ∷ zeroᶠ ∷ zeroᶠ ∷ zeroᶠ ∷ []
-fields_of (Naive f damp lp bp) = f ∷ damp ∷ lp ∷ bp ∷ zeroᶠ ∷ zeroᶠ ∷ zeroᶠ ∷ zeroᶠ ∷ []
-fields_of (Modified f fq x lp bp) = f ∷ fq ∷ x ∷ lp ∷ bp ∷ zeroᶠ ∷ zeroᶠ ∷ zeroᶠ ∷ []
-fields_of (Crossover f fq x₀ x₁ lp₀ lp₁ bp₀ bp₁) = f ∷ fq ∷ x₀ ∷ x₁ ∷ lp₀ ∷ lp₁ ∷ bp₀ ∷ bp₁ ∷ []
+-- so many numbers, with zeros behind
+abbrev pub padded : ℕ → List Float → List Float
+padded n fields = fields ++ replicate (8 - n) zeroᶠ
 
--- the number at the place k
-abbrev pub field : List Float → ℕ → Float
-field v k = get_or v k nan
+abbrev pub fields_of : Filter → List Float
+fields_of (DcBlocker s) = padded 3 (dc_fields s)
+fields_of (OnePole s) = padded 3 (one_pole_fields s)
+fields_of (Svf s) = padded 5 (svf_fields s)
+fields_of (NaiveSvf s) = padded 4 (naive_fields s)
+fields_of (ModifiedSvf s) = padded 5 (modified_fields s)
+fields_of (CrossoverSvf p) = padded 8 (crossover.crossover_fields (crossover_from p))
 
 abbrev pub filter_from : FilterType → List Float → Filter
-filter_from type.DcBlocker v = Dc (field v 0) (field v 1) (field v 2)
-filter_from type.OnePole v = OnePole (field v 0) (field v 1) (field v 2)
-filter_from type.Svf v = Svf (field v 0) (field v 1) (field v 2) (field v 3) (field v 4)
-filter_from type.NaiveSvf v = Naive (field v 0) (field v 1) (field v 2) (field v 3)
-filter_from type.ModifiedSvf v = Modified (field v 0) (field v 1) (field v 2) (field v 3) (field v 4)
-filter_from type.CrossoverSvf v = Crossover (field v 0) (field v 1) (field v 2) (field v 3) (field v 4) (field v 5) (field v 6) (field v 7)
+filter_from type.DcBlocker v = DcBlocker (dc_from v)
+filter_from type.OnePole v = OnePole (one_pole_from v)
+filter_from type.Svf v = Svf (svf_from v)
+filter_from type.NaiveSvf v = NaiveSvf (naive_from v)
+filter_from type.ModifiedSvf v = ModifiedSvf (modified_from v)
+filter_from type.CrossoverSvf v = CrossoverSvf (passes_of (crossover.crossover_from v))
 
 -- a filter comes back from its type and its fields
 abbrev pub FieldsReturn : Type 0
