@@ -11,8 +11,8 @@ use Rattle.any_filter.specs.declared.FilterType.{FilterType}
 use Rattle.any_filter.specs.declared.FilterType.TheVariants.{DcBlocker, OnePole, Svf, NaiveSvf, ModifiedSvf, CrossoverSvf}
 use Rattle.runs.specs.Form.{is_svf, is_naive, has_form, has_form_two, form_refusal, refusal_if}
 use Rattle.runs.specs.Rows.{Has, dc_plain, one_pole_plain, svf_plain, svf_gain, svf_stride, svf_in_multimode, naive_plain, naive_decimate, modified_plain, crossover_plain, HasTwo, svf_gains, svf_pair, naive_split, StepOfZero, zero_stride, zero_decimate, RunCase, no_form, no_step, RunByRows}
-use Rattle.runs.specs.declared.RunForm.{RunForm}
-use Rattle.runs.specs.declared.RunForm.TheVariants.{Plain, Gain, Stride, Multimode, Decimate, Gains, Pair, Split}
+use Rattle.runs.specs.declared.form.RunForm.{RunForm}
+use Rattle.runs.specs.declared.form.RunForm.TheVariants.{Plain, Gain, Stride, Multimode, Decimate, Gains, Pair, Split}
 
 -- ---- the step
 

@@ -3,8 +3,8 @@ use Rattle.std.specs.Prelude.{ℕ, Bool, true, false, cond}
 use Rattle.filter_core.specs.Refusal.{step_refusal}
 use Rattle.any_filter.specs.declared.FilterType.{FilterType}
 use Rattle.any_filter.specs.declared.FilterType.TheVariants.{DcBlocker, OnePole, Svf, NaiveSvf, ModifiedSvf, CrossoverSvf}
-use Rattle.runs.specs.declared.RunForm.{RunForm}
-use Rattle.runs.specs.declared.RunForm.TheVariants.{Plain, Gain, Stride, Multimode, Decimate, Gains, Pair, Split}
+use Rattle.runs.specs.declared.form.RunForm.{RunForm}
+use Rattle.runs.specs.declared.form.RunForm.TheVariants.{Plain, Gain, Stride, Multimode, Decimate, Gains, Pair, Split}
 
 abbrev pub is_svf : FilterType → Bool
 is_svf DcBlocker = false

@@ -3,7 +3,7 @@ use Rattle.std.specs.Prelude.{◌≡◌, List, Float}
 use Rattle.any_filter.specs.Rest.{coefficients_of}
 use Rattle.any_filter.specs.declared.Filter.{Filter}
 use Rattle.runs.specs.Run.{through}
-use Rattle.runs.specs.declared.RunForm.{RunForm}
+use Rattle.runs.specs.declared.form.RunForm.{RunForm}
 
 abbrev pub RunsKeepCoefficients : Type 0
 RunsKeepCoefficients = (f : Filter) (form : RunForm) (us : List Float) → coefficients_of (through f form us) ≡ coefficients_of f

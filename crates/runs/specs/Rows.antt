@@ -5,8 +5,8 @@ use Rattle.filter_core.specs.declared.FilterMode.{FilterMode}
 use Rattle.any_filter.specs.declared.FilterType.{FilterType}
 use Rattle.any_filter.specs.declared.FilterType.TheVariants.{DcBlocker, OnePole, Svf, NaiveSvf, ModifiedSvf, CrossoverSvf}
 use Rattle.runs.specs.Form.{run_refusal, run_two_refusal}
-use Rattle.runs.specs.declared.RunForm.{RunForm}
-use Rattle.runs.specs.declared.RunForm.TheVariants.{Plain, Gain, Stride, Multimode, Decimate, Gains, Pair, Split}
+use Rattle.runs.specs.declared.form.RunForm.{RunForm}
+use Rattle.runs.specs.declared.form.RunForm.TheVariants.{Plain, Gain, Stride, Multimode, Decimate, Gains, Pair, Split}
 
 -- the forms of a run with one output, filter by filter
 pub data Has : FilterType → RunForm → Type 0 where

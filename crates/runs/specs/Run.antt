@@ -9,18 +9,18 @@ use Rattle.svf.specs.Svf.{svf_next, svf_out, svf_gained, svf_multimode}
 use Rattle.naive_svf.specs.NaiveSvf.{naive_next, naive_out, naive_low, naive_high}
 use Rattle.modified_svf.specs.ModifiedSvf.{modified_next, modified_out}
 use Rattle.crossover_svf.specs.CrossoverSvf.{crossover_next, crossover_out}
-use Rattle.dc_blocker.specs.declared.DcBlocker.{DcBlocker}
-use Rattle.one_pole.specs.declared.OnePole.{OnePole as OnePoleFilter}
-use Rattle.svf.specs.declared.Svf.{Svf as SvfFilter}
-use Rattle.naive_svf.specs.declared.NaiveSvf.{NaiveSvf}
-use Rattle.modified_svf.specs.declared.ModifiedSvf.{ModifiedSvf}
-use Rattle.crossover_svf.specs.declared.CrossoverSvf.{CrossoverSvf}
-use Rattle.any_filter.specs.Cases.{type_of, of_dc, of_one_pole, of_svf, of_naive, of_modified, of_crossover, dc_from, one_pole_from, svf_from, naive_from, modified_from, crossover_from}
+use Rattle.dc_blocker.specs.declared.DcBlocker as dc
+use Rattle.one_pole.specs.declared.OnePole as one_pole
+use Rattle.svf.specs.declared.Svf as svf
+use Rattle.naive_svf.specs.declared.NaiveSvf as naive
+use Rattle.modified_svf.specs.declared.ModifiedSvf as modified
+use Rattle.crossover_svf.specs.declared.CrossoverSvf as crossover
+use Rattle.any_filter.specs.Cases.{type_of, passes_of, crossover_from}
 use Rattle.any_filter.specs.declared.Filter.{Filter}
-use Rattle.any_filter.specs.declared.Filter.TheVariants.{Dc, OnePole, Svf, Naive, Modified, Crossover}
+use Rattle.any_filter.specs.declared.Filter.TheVariants.{DcBlocker, OnePole, Svf, NaiveSvf, ModifiedSvf, CrossoverSvf}
 use Rattle.runs.specs.Form.{run_refusal, run_two_refusal}
-use Rattle.runs.specs.declared.RunForm.{RunForm}
-use Rattle.runs.specs.declared.RunForm.TheVariants.{Plain, Gain, Stride, Multimode, Decimate, Gains, Pair, Split}
+use Rattle.runs.specs.declared.form.RunForm.{RunForm}
+use Rattle.runs.specs.declared.form.RunForm.TheVariants.{Plain, Gain, Stride, Multimode, Decimate, Gains, Pair, Split}
 
 -- ---- a form, for a filter with the state S: the state after a sample, and what is put to the first and to the second output
 
@@ -48,7 +48,7 @@ two_outputs next a b = record { next = each next; first = puts a; second = puts 
 
 -- ---- the forms of each filter
 
-abbrev pub svf_form : RunForm → Form SvfFilter
+abbrev pub svf_form : RunForm → Form svf.Svf
 svf_form (Plain mode) = throughout svf_next (svf_out mode)
 svf_form (Gain mode gain) = throughout svf_next (svf_gained mode gain)
 svf_form (Stride mode step) = one_output (each_due step svf_next) (puts_due step (svf_out mode))
@@ -58,7 +58,7 @@ svf_form (Gains mode a b) = two_outputs svf_next (svf_gained mode a) (svf_gained
 svf_form (Pair a b) = two_outputs svf_next (svf_out a) (svf_out b)
 svf_form Split = absent
 
-abbrev pub naive_form : RunForm → Form NaiveSvf
+abbrev pub naive_form : RunForm → Form naive.NaiveSvf
 naive_form (Plain mode) = throughout naive_next (naive_out mode)
 naive_form (Gain mode gain) = absent
 naive_form (Stride mode step) = absent
@@ -80,16 +80,16 @@ only_plain form (Pair a b) = absent
 only_plain form Split = absent
 
 -- the DC blocker ignores its mode
-abbrev pub dc_form : RunForm → Form DcBlocker
+abbrev pub dc_form : RunForm → Form dc.DcBlocker
 dc_form = only_plain (λ mode. throughout dc_next dc_out)
 
-abbrev pub one_pole_form : RunForm → Form OnePoleFilter
+abbrev pub one_pole_form : RunForm → Form one_pole.OnePole
 one_pole_form = only_plain (λ mode. throughout one_pole_next (one_pole_out mode))
 
-abbrev pub modified_form : RunForm → Form ModifiedSvf
+abbrev pub modified_form : RunForm → Form modified.ModifiedSvf
 modified_form = only_plain (λ mode. throughout (modified_next mode) (modified_out mode))
 
-abbrev pub crossover_form : RunForm → Form CrossoverSvf
+abbrev pub crossover_form : RunForm → Form crossover.CrossoverSvf
 crossover_form = only_plain (λ mode. throughout (crossover_next mode) (crossover_out mode))
 
 -- ---- any filter: the state of its own type, which `filter` makes a case, and its form
@@ -101,13 +101,13 @@ pub record Machine : Type 1 where
   pub start : State
 
 abbrev pub machine_of : Filter → RunForm → Machine
-machine_of (Dc pole x y) form = record { State = DcBlocker; filter = of_dc; form = dc_form form; start = dc_from pole x y }
-machine_of (OnePole g gi state) form = record { State = OnePoleFilter; filter = of_one_pole; form = one_pole_form form; start = one_pole_from g gi state }
-machine_of (Svf g r h s t) form = record { State = SvfFilter; filter = of_svf; form = svf_form form; start = svf_from g r h s t }
-machine_of (Naive f damp lp bp) form = record { State = NaiveSvf; filter = of_naive; form = naive_form form; start = naive_from f damp lp bp }
-machine_of (Modified f fq x lp bp) form = record { State = ModifiedSvf; filter = of_modified; form = modified_form form; start = modified_from f fq x lp bp }
-machine_of (Crossover f fq x₀ x₁ lp₀ lp₁ bp₀ bp₁) form =
-    record { State = CrossoverSvf; filter = of_crossover; form = crossover_form form; start = crossover_from f fq x₀ x₁ lp₀ lp₁ bp₀ bp₁ }
+machine_of (DcBlocker s) form = record { State = dc.DcBlocker; filter = DcBlocker; form = dc_form form; start = s }
+machine_of (OnePole s) form = record { State = one_pole.OnePole; filter = OnePole; form = one_pole_form form; start = s }
+machine_of (Svf s) form = record { State = svf.Svf; filter = Svf; form = svf_form form; start = s }
+machine_of (NaiveSvf s) form = record { State = naive.NaiveSvf; filter = NaiveSvf; form = naive_form form; start = s }
+machine_of (ModifiedSvf s) form = record { State = modified.ModifiedSvf; filter = ModifiedSvf; form = modified_form form; start = s }
+machine_of (CrossoverSvf p) form =
+    record { State = crossover.CrossoverSvf; filter = λ s. CrossoverSvf (passes_of s); form = crossover_form form; start = crossover_from p }
 
 -- the filter after a run of the form over the samples
 unfoldable pub through : Filter → RunForm → List Float → Filter
@@ -121,22 +121,15 @@ first_output f form us ys = let m = machine_of f form in buffer_after m.form.nex
 unfoldable pub second_output : Filter → RunForm → List Float → List Float → List Float
 second_output f form us zs = let m = machine_of f form in buffer_after m.form.next m.form.second 0 m.start us zs
 
--- a copy of the samples: a filter that has no state and puts each sample out as it is
-abbrev pub no_state : ℕ → Float → ℕ
-no_state s x = s
-
-abbrev pub same_sample : ℕ → Float → Float
-same_sample s x = x
-
 -- ---- what a run leaves: the filter and the outputs. A refused one leaves them as they were
 
--- of a filter s, which `of` makes a case
-pub record RanBy {S : Type 0} (of : S → Filter) (refusal : ℕ) (form : Form S) (s : S) (us ys : List Float) (r : Filter) (ys' : List Float) : Type 0 where
-  pub filter_is : r ≡ unless_refused refusal (of s) (of (state_after form.next 0 s us))
+-- of a filter s of one type
+pub record RanBy {S : Type 0} (refusal : ℕ) (form : Form S) (s : S) (us ys : List Float) (r : S) (ys' : List Float) : Type 0 where
+  pub filter_is : r ≡ unless_refused refusal s (state_after form.next 0 s us)
   pub output_is : ys' ≡ unless_refused refusal ys (buffer_after form.next form.first 0 s us ys)
 
-pub record RanTwoBy {S : Type 0} (of : S → Filter) (refusal : ℕ) (form : Form S) (s : S) (us ys zs : List Float) (r : Filter) (ys' zs' : List Float) : Type 0 where
-  pub filter_is : r ≡ unless_refused refusal (of s) (of (state_after form.next 0 s us))
+pub record RanTwoBy {S : Type 0} (refusal : ℕ) (form : Form S) (s : S) (us ys zs : List Float) (r : S) (ys' zs' : List Float) : Type 0 where
+  pub filter_is : r ≡ unless_refused refusal s (state_after form.next 0 s us)
   pub first_is : ys' ≡ unless_refused refusal ys (buffer_after form.next form.first 0 s us ys)
   pub second_is : zs' ≡ unless_refused refusal zs (buffer_after form.next form.second 0 s us zs)
 

@@ -1,99 +1,82 @@
-// Which filter has which form of a run.
+// The forms of a run, and which filter has which.
 
 ghost use Rattle.std.specs.Prelude.{◌≡◌};
+ghost use Rattle.filter_core.specs.Refusal.{number_in};
 ghost use Rattle.any_filter.specs.Cases.{type_of};
-ghost use Rattle.runs.specs.Form.{is_svf, is_naive, has_form, has_form_two, form_refusal, refusal_if, run_refusal, run_two_refusal};
+ghost use Rattle.runs.specs.Form.{has_form, has_form_two, form_refusal, refusal_if, run_refusal, run_two_refusal};
 
-use crate::RunForm;
 use any_filter::{Filter, FilterType};
+use filter_core::{FilterMode, Refusal};
 
-fn is_svf(filter: FilterType) -> bool
-    ensures { result ≡ is_svf filter }
-{
-    match filter {
-        FilterType::DcBlocker => false,
-        FilterType::OnePole => false,
-        FilterType::Svf => true,
-        FilterType::NaiveSvf => false,
-        FilterType::ModifiedSvf => false,
-        FilterType::CrossoverSvf => false,
+// The last three have two outputs.
+#[derive(Clone, Copy)]
+pub enum RunForm {
+    Plain(FilterMode),
+    Gain(FilterMode, f32),
+    Stride(FilterMode, usize),
+    Multimode(f32),
+    Decimate(FilterMode, usize),
+    Gains(FilterMode, f32, f32),
+    Pair(FilterMode, FilterMode),
+    Split,
+}
+
+impl RunForm {
+    // Whether a filter of the type has the form, in a run with one output.
+    fn is_had_by(self, filter: FilterType) -> bool
+        ensures { result ≡ has_form filter self }
+    {
+        match self {
+            RunForm::Plain(_) => true,
+            RunForm::Gain(_, _) | RunForm::Stride(_, _) | RunForm::Multimode(_) => {
+                filter == FilterType::Svf
+            }
+            RunForm::Decimate(_, _) => filter == FilterType::NaiveSvf,
+            RunForm::Gains(_, _, _) | RunForm::Pair(_, _) | RunForm::Split => false,
+        }
+    }
+
+    // The same with two outputs.
+    fn is_had_in_two_by(self, filter: FilterType) -> bool
+        ensures { result ≡ has_form_two filter self }
+    {
+        match self {
+            RunForm::Gains(_, _, _) | RunForm::Pair(_, _) => filter == FilterType::Svf,
+            RunForm::Split => filter == FilterType::NaiveSvf,
+            _ => false,
+        }
+    }
+
+    fn check_step(self) -> Result<(), Refusal>
+        ensures { number_in result ≡ form_refusal self }
+    {
+        match self {
+            RunForm::Stride(_, step) | RunForm::Decimate(_, step) => filter_core::check_step(step),
+            _ => Ok(()),
+        }
+    }
+
+    fn check_if(self, has: bool) -> Result<(), Refusal>
+        ensures { number_in result ≡ refusal_if has self }
+    {
+        if has {
+            self.check_step()
+        } else {
+            Err(Refusal::Form)
+        }
     }
 }
 
-fn is_naive(filter: FilterType) -> bool
-    ensures { result ≡ is_naive filter }
+// What a run with one output is refused for: that the filter does not have the form, then a step of 0.
+pub fn check_run(filter: &Filter, form: RunForm) -> Result<(), Refusal>
+    ensures { number_in result ≡ run_refusal (type_of filter.now) form }
 {
-    match filter {
-        FilterType::DcBlocker => false,
-        FilterType::OnePole => false,
-        FilterType::Svf => false,
-        FilterType::NaiveSvf => true,
-        FilterType::ModifiedSvf => false,
-        FilterType::CrossoverSvf => false,
-    }
-}
-
-fn has_form(filter: FilterType, form: RunForm) -> bool
-    ensures { result ≡ has_form filter form }
-{
-    match form {
-        RunForm::Plain(_) => true,
-        RunForm::Gain(_, _) => is_svf(filter),
-        RunForm::Stride(_, _) => is_svf(filter),
-        RunForm::Multimode(_) => is_svf(filter),
-        RunForm::Decimate(_, _) => is_naive(filter),
-        RunForm::Gains(_, _, _) => false,
-        RunForm::Pair(_, _) => false,
-        RunForm::Split => false,
-    }
-}
-
-fn has_form_two(filter: FilterType, form: RunForm) -> bool
-    ensures { result ≡ has_form_two filter form }
-{
-    match form {
-        RunForm::Plain(_) => false,
-        RunForm::Gain(_, _) => false,
-        RunForm::Stride(_, _) => false,
-        RunForm::Multimode(_) => false,
-        RunForm::Decimate(_, _) => false,
-        RunForm::Gains(_, _, _) => is_svf(filter),
-        RunForm::Pair(_, _) => is_svf(filter),
-        RunForm::Split => is_naive(filter),
-    }
-}
-
-fn form_refusal(form: RunForm) -> u8
-    ensures { result ≡ form_refusal form }
-{
-    match form {
-        RunForm::Plain(_) => 0,
-        RunForm::Gain(_, _) => 0,
-        RunForm::Stride(_, step) => filter_core::step_refusal(step),
-        RunForm::Multimode(_) => 0,
-        RunForm::Decimate(_, step) => filter_core::step_refusal(step),
-        RunForm::Gains(_, _, _) => 0,
-        RunForm::Pair(_, _) => 0,
-        RunForm::Split => 0,
-    }
-}
-
-fn refusal_if(has: bool, form: RunForm) -> u8
-    ensures { result ≡ refusal_if has form }
-{
-    if has { form_refusal(form) } else { 9 }
-}
-
-// The number that a run with one output is refused with, 0 if it is not: 9, then 10.
-pub fn run_refusal(filter: Filter, form: RunForm) -> u8
-    ensures { result ≡ run_refusal (type_of filter) form }
-{
-    refusal_if(has_form(filter.filter_type(), form), form)
+    form.check_if(form.is_had_by(filter.filter_type()))
 }
 
 // The same with two outputs.
-pub fn run_two_refusal(filter: Filter, form: RunForm) -> u8
-    ensures { result ≡ run_two_refusal (type_of filter) form }
+pub fn check_run_two(filter: &Filter, form: RunForm) -> Result<(), Refusal>
+    ensures { number_in result ≡ run_two_refusal (type_of filter.now) form }
 {
-    refusal_if(has_form_two(filter.filter_type(), form), form)
+    form.check_if(form.is_had_in_two_by(filter.filter_type()))
 }

@@ -1,154 +1,140 @@
-// Runs with one output. Each type's own function takes the forms that it has, and leaves any other alone.
+// Runs with one output. Each type takes the forms that it has, and refuses any other.
 
+ghost use Rattle.std.specs.Prelude.{◌≡◌};
 ghost use Rattle.filter_core.specs.Buffer.{within};
-ghost use Rattle.any_filter.specs.Cases.{of_dc, of_one_pole, of_svf, of_naive, of_modified, of_crossover};
+ghost use Rattle.filter_core.specs.Refusal.{number_in};
+ghost use Rattle.any_filter.specs.Cases.{type_of};
 ghost use Rattle.any_filter.specs.declared.FilterType.TheVariants as type;
 ghost use Rattle.runs.specs.Form.{run_refusal};
 ghost use Rattle.runs.specs.Run.{dc_form, one_pole_form, svf_form, naive_form, modified_form, crossover_form, RanBy, Ran};
 
 use crate::RunForm;
-use crate::loops::{dc_plain, one_pole_plain};
-use any_filter::{Filter, of_crossover, of_dc, of_modified, of_naive, of_one_pole, of_svf};
+use any_filter::{Filter, Passes};
 use crossover_svf::CrossoverSvf;
-use dc_blocker::DcBlocker;
+use dc_blocker::{Blocking, DcBlocker};
+use filter_core::{Refusal, filter_each};
 use modified_svf::ModifiedSvf;
 use naive_svf::NaiveSvf;
 use one_pole::OnePole;
 use svf::Svf;
 
-fn run_dc(f: DcBlocker, form: RunForm, input: &[f32], output: &mut [f32]) -> Filter
-    ensures { RanBy of_dc (run_refusal type.DcBlocker form) (dc_form form) f
-        (within input.now output.old) output.old result output.new }
+fn run_dc(
+    f: &mut DcBlocker,
+    form: RunForm,
+    input: &[f32],
+    output: &mut [f32],
+) -> Result<(), Refusal>
+    ensures refusal { number_in result ≡ run_refusal type.DcBlocker form }
+    ensures ran { RanBy (run_refusal type.DcBlocker form) (dc_form form) f.old (within input.now output.old) output.old f.new output.new }
 {
     let RunForm::Plain(_) = form else {
-        return of_dc(f);
+        return Err(Refusal::Form);
     };
-    of_dc(dc_plain(f, input, output))
+    filter_each(&Blocking, f, input, output);
+    Ok(())
 }
 
-fn run_one_pole(f: OnePole, form: RunForm, input: &[f32], output: &mut [f32]) -> Filter
-    ensures { RanBy of_one_pole (run_refusal type.OnePole form) (one_pole_form form) f
-        (within input.now output.old) output.old result output.new }
+fn run_one_pole(
+    f: &mut OnePole,
+    form: RunForm,
+    input: &[f32],
+    output: &mut [f32],
+) -> Result<(), Refusal>
+    ensures refusal { number_in result ≡ run_refusal type.OnePole form }
+    ensures ran { RanBy (run_refusal type.OnePole form) (one_pole_form form) f.old (within input.now output.old) output.old f.new output.new }
 {
     let RunForm::Plain(mode) = form else {
-        return of_one_pole(f);
+        return Err(Refusal::Form);
     };
-    of_one_pole(one_pole_plain(f, input, output, mode))
+    filter_each(&mode, f, input, output);
+    Ok(())
 }
 
-fn run_svf(f: Svf, form: RunForm, input: &[f32], output: &mut [f32]) -> Filter
-    ensures { RanBy of_svf (run_refusal type.Svf form) (svf_form form) f
-        (within input.now output.old) output.old result output.new }
+fn run_svf(f: &mut Svf, form: RunForm, input: &[f32], output: &mut [f32]) -> Result<(), Refusal>
+    ensures refusal { number_in result ≡ run_refusal type.Svf form }
+    ensures ran { RanBy (run_refusal type.Svf form) (svf_form form) f.old (within input.now output.old) output.old f.new output.new }
 {
     match form {
-        RunForm::Plain(mode) => of_svf(f.process_buffer(input, output, mode)),
-        RunForm::Gain(mode, gain) => of_svf(f.process_add_buffer(input, output, gain, mode)),
-        RunForm::Stride(mode, step) => {
-            let a = f.process_stride_buffer(input, output, step, mode);
-            let next = a.filter;
-            of_svf(next)
-        }
-        RunForm::Multimode(value) => of_svf(f.process_multimode_buffer(input, output, value)),
-        _ => of_svf(f),
+        RunForm::Plain(mode) => f.process_buffer(input, output, mode),
+        RunForm::Gain(mode, gain) => f.process_add_buffer(input, output, gain, mode),
+        RunForm::Stride(mode, step) => f.process_stride_buffer(input, output, step, mode)?,
+        RunForm::Multimode(value) => f.process_multimode_buffer(input, output, value),
+        _ => return Err(Refusal::Form),
     }
+    Ok(())
 }
 
-fn run_naive(f: NaiveSvf, form: RunForm, input: &[f32], output: &mut [f32]) -> Filter
-    ensures { RanBy of_naive (run_refusal type.NaiveSvf form) (naive_form form) f
-        (within input.now output.old) output.old result output.new }
+fn run_naive(
+    f: &mut NaiveSvf,
+    form: RunForm,
+    input: &[f32],
+    output: &mut [f32],
+) -> Result<(), Refusal>
+    ensures refusal { number_in result ≡ run_refusal type.NaiveSvf form }
+    ensures ran { RanBy (run_refusal type.NaiveSvf form) (naive_form form) f.old (within input.now output.old) output.old f.new output.new }
 {
     match form {
-        RunForm::Plain(mode) => of_naive(f.process_buffer(input, output, mode)),
-        RunForm::Decimate(mode, step) => {
-            let a = f.process_decimate(input, output, step, mode);
-            let next = a.filter;
-            of_naive(next)
-        }
-        _ => of_naive(f),
+        RunForm::Plain(mode) => f.process_buffer(input, output, mode),
+        RunForm::Decimate(mode, step) => f.process_decimate(input, output, step, mode)?,
+        _ => return Err(Refusal::Form),
     }
+    Ok(())
 }
 
-fn run_modified(f: ModifiedSvf, form: RunForm, input: &[f32], output: &mut [f32]) -> Filter
-    ensures { RanBy of_modified (run_refusal type.ModifiedSvf form) (modified_form form) f
-        (within input.now output.old) output.old result output.new }
+fn run_modified(
+    f: &mut ModifiedSvf,
+    form: RunForm,
+    input: &[f32],
+    output: &mut [f32],
+) -> Result<(), Refusal>
+    ensures refusal { number_in result ≡ run_refusal type.ModifiedSvf form }
+    ensures ran { RanBy (run_refusal type.ModifiedSvf form) (modified_form form) f.old (within input.now output.old) output.old f.new output.new }
 {
     let RunForm::Plain(mode) = form else {
-        return of_modified(f);
+        return Err(Refusal::Form);
     };
-    of_modified(f.process(input, output, mode))
+    f.process(input, output, mode);
+    Ok(())
 }
 
-fn run_crossover(f: CrossoverSvf, form: RunForm, input: &[f32], output: &mut [f32]) -> Filter
-    ensures { RanBy of_crossover (run_refusal type.CrossoverSvf form) (crossover_form form) f
-        (within input.now output.old) output.old result output.new }
+fn run_crossover(
+    f: &mut CrossoverSvf,
+    form: RunForm,
+    input: &[f32],
+    output: &mut [f32],
+) -> Result<(), Refusal>
+    ensures refusal { number_in result ≡ run_refusal type.CrossoverSvf form }
+    ensures ran { RanBy (run_refusal type.CrossoverSvf form) (crossover_form form) f.old (within input.now output.old) output.old f.new output.new }
 {
     let RunForm::Plain(mode) = form else {
-        return of_crossover(f);
+        return Err(Refusal::Form);
     };
-    of_crossover(f.process(input, output, mode))
+    f.process(input, output, mode);
+    Ok(())
 }
 
-// The filter after the run. What `run_refusal` refuses changes nothing.
-pub fn run(filter: Filter, form: RunForm, input: &[f32], output: &mut [f32]) -> Filter
-    ensures { Ran filter form (within input.now output.old) output.old result output.new }
+// Runs the form, or refuses it and changes nothing.
+#[tactic(auto, unfolding(crate::specs::Run::through, crate::specs::Run::first_output))]
+pub fn run(
+    filter: &mut Filter,
+    form: RunForm,
+    input: &[f32],
+    output: &mut [f32],
+) -> Result<(), Refusal>
+    ensures refusal { number_in result ≡ run_refusal (type_of filter.old) form }
+    ensures ran { Ran filter.old form (within input.now output.old) output.old filter.new output.new }
 {
     match filter {
-        Filter::Dc { pole, x, y } => run_dc(DcBlocker { pole, x, y }, form, input, output),
-        Filter::OnePole { g, gi, state } => run_one_pole(
-            OnePole { g, gi, state },
-            form,
-            input,
-            output,
-        ),
-        Filter::Svf {
-            g,
-            r,
-            h,
-            state_1,
-            state_2,
-        } => {
-            run_svf(
-                Svf {
-                    g,
-                    r,
-                    h,
-                    state_1,
-                    state_2,
-                },
-                form,
-                input,
-                output,
-            )
+        Filter::DcBlocker(f) => run_dc(f, form, input, output),
+        Filter::OnePole(f) => run_one_pole(f, form, input, output),
+        Filter::Svf(f) => run_svf(f, form, input, output),
+        Filter::NaiveSvf(f) => run_naive(f, form, input, output),
+        Filter::ModifiedSvf(f) => run_modified(f, form, input, output),
+        Filter::CrossoverSvf(passes) => {
+            let mut f = CrossoverSvf::from(*passes);
+            let ran = run_crossover(&mut f, form, input, output);
+            *passes = Passes::from(f);
+            ran
         }
-        Filter::Naive { f, damp, lp, bp } => run_naive(
-            NaiveSvf { f, damp, lp, bp },
-            form,
-            input,
-            output,
-        ),
-        Filter::Modified { f, fq, x, lp, bp } => {
-            run_modified(ModifiedSvf { f, fq, x, lp, bp }, form, input, output)
-        }
-        Filter::Crossover {
-            f,
-            fq,
-            x_0,
-            x_1,
-            lp_0,
-            lp_1,
-            bp_0,
-            bp_1,
-        } => run_crossover(
-            CrossoverSvf {
-                f,
-                fq,
-                x: [x_0, x_1],
-                lp: [lp_0, lp_1],
-                bp: [bp_0, bp_1],
-            },
-            form,
-            input,
-            output,
-        ),
     }
 }

@@ -1,88 +1,81 @@
 // Runs with two outputs.
 
+ghost use Rattle.std.specs.Prelude.{◌≡◌};
 ghost use Rattle.filter_core.specs.Buffer.{within};
-ghost use Rattle.any_filter.specs.Cases.{of_svf, of_naive};
+ghost use Rattle.filter_core.specs.Refusal.{number_in};
+ghost use Rattle.any_filter.specs.Cases.{type_of};
 ghost use Rattle.any_filter.specs.declared.FilterType.TheVariants as type;
 ghost use Rattle.runs.specs.Form.{run_two_refusal};
 ghost use Rattle.runs.specs.Run.{svf_form, naive_form, RanTwoBy, RanTwo};
 
 use crate::RunForm;
-use crate::loops::svf_pair;
-use any_filter::{Filter, of_naive, of_svf};
+use any_filter::Filter;
+use filter_core::{Refusal, filter_pair};
 use naive_svf::NaiveSvf;
-use svf::Svf;
+use svf::{Pair, Svf};
 
 fn run_two_svf(
-    f: Svf,
+    f: &mut Svf,
     form: RunForm,
     input: &[f32],
     first: &mut [f32],
     second: &mut [f32],
-) -> Filter
-    ensures { RanTwoBy of_svf (run_two_refusal type.Svf form) (svf_form form) f (within (within input.now first.old) second.old)
-        first.old second.old result first.new second.new }
+) -> Result<(), Refusal>
+    ensures refusal { number_in result ≡ run_two_refusal type.Svf form }
+    ensures ran { RanTwoBy (run_two_refusal type.Svf form) (svf_form form) f.old (within (within input.now first.old) second.old)
+        first.old second.old f.new first.new second.new }
 {
     match form {
         RunForm::Gains(mode, a, b) => {
-            of_svf(f.process_add_dual_buffer(input, first, second, a, b, mode))
+            f.process_add_dual_buffer(input, first, second, a, b, mode);
+            Ok(())
         }
-        RunForm::Pair(a, b) => of_svf(svf_pair(f, input, first, second, a, b)),
-        _ => of_svf(f),
+        RunForm::Pair(a, b) => {
+            let pair = Pair {
+                first: a,
+                second: b,
+            };
+            filter_pair(&pair, f, input, first, second);
+            Ok(())
+        }
+        _ => Err(Refusal::Form),
     }
 }
 
 fn run_two_naive(
-    f: NaiveSvf,
+    f: &mut NaiveSvf,
     form: RunForm,
     input: &[f32],
     first: &mut [f32],
     second: &mut [f32],
-) -> Filter
-    ensures { RanTwoBy of_naive (run_two_refusal type.NaiveSvf form) (naive_form form) f (within (within input.now first.old) second.old)
-        first.old second.old result first.new second.new }
+) -> Result<(), Refusal>
+    ensures refusal { number_in result ≡ run_two_refusal type.NaiveSvf form }
+    ensures ran { RanTwoBy (run_two_refusal type.NaiveSvf form) (naive_form form) f.old (within (within input.now first.old) second.old)
+        first.old second.old f.new first.new second.new }
 {
     let RunForm::Split = form else {
-        return of_naive(f);
+        return Err(Refusal::Form);
     };
-    of_naive(f.split(input, first, second))
+    f.split(input, first, second);
+    Ok(())
 }
 
-// The filter after the run. What `run_two_refusal` refuses changes nothing.
+// Runs the form, or refuses it and changes nothing.
+#[tactic(auto, unfolding(crate::specs::Run::through, crate::specs::Run::first_output, crate::specs::Run::second_output))]
 pub fn run_two(
-    filter: Filter,
+    filter: &mut Filter,
     form: RunForm,
     input: &[f32],
     first: &mut [f32],
     second: &mut [f32],
-) -> Filter
-    ensures { RanTwo filter form (within (within input.now first.old) second.old)
-        first.old second.old result first.new second.new }
+) -> Result<(), Refusal>
+    ensures refusal { number_in result ≡ run_two_refusal (type_of filter.old) form }
+    ensures ran { RanTwo filter.old form (within (within input.now first.old) second.old)
+        first.old second.old filter.new first.new second.new }
 {
     match filter {
-        Filter::Svf {
-            g,
-            r,
-            h,
-            state_1,
-            state_2,
-        } => {
-            run_two_svf(
-                Svf {
-                    g,
-                    r,
-                    h,
-                    state_1,
-                    state_2,
-                },
-                form,
-                input,
-                first,
-                second,
-            )
-        }
-        Filter::Naive { f, damp, lp, bp } => {
-            run_two_naive(NaiveSvf { f, damp, lp, bp }, form, input, first, second)
-        }
-        _ => filter,
+        Filter::Svf(f) => run_two_svf(f, form, input, first, second),
+        Filter::NaiveSvf(f) => run_two_naive(f, form, input, first, second),
+        _ => Err(Refusal::Form),
     }
 }
