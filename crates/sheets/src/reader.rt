@@ -1,8 +1,10 @@
 // The reader of both editions: a sheet's edition and its size, then entry by entry.
 
-ghost use Rattle.std.specs.Prelude.{◌≡◌, IfOk};
+ghost use Rattle.std.specs.Prelude.{◌≡◌, length, get_or, IfOk};
 ghost use Rattle.filter_core.specs.Refusal.{number_in};
-ghost use Rattle.sheets.specs.Sheet.{entries_of, edition_in, check_of, check_entry_of, lookup_of};
+ghost use Rattle.filter_core.specs.Rows.{◌then◌};
+ghost use Rattle.sheets.specs.Edition.{edition_refusal};
+ghost use Rattle.sheets.specs.Sheet.{entries_of, edition_in, size_refusal, check_of, check_entry_of, lookup_of};
 
 use crate::edition::Edition;
 use crate::sheet::Sheet;
@@ -22,12 +24,20 @@ pub fn edition_in(sheet: &[u8]) -> Edition
     Edition::try_from(words::byte_at(sheet, 0, 1)).unwrap_or(Edition::One)
 }
 
+// A sheet by its edition and its size; its entries are not checked yet.
+fn opened(sheet: &[u8]) -> Result<Sheet<'_>, Refusal>
+    ensures refusal { number_in result ≡ (edition_refusal (get_or sheet.now 1 0) then size_refusal (length sheet.now) (entries_of sheet.now)) }
+    ensures sheet { IfOk result (λ s. (s.edition ≡ edition_in sheet.now) × (s.n ≡ entries_of sheet.now) × (s.bytes.now ≡ sheet.now)) }
+{
+    let edition = Edition::try_from(words::byte_at(sheet, 0, 1))?;
+    Sheet::sized(edition, entries(sheet), sheet)
+}
+
 // Refuses what is no sheet.
 pub fn check(sheet: &[u8]) -> Result<(), Refusal>
     ensures { number_in result ≡ check_of sheet.now }
 {
-    let edition = Edition::try_from(words::byte_at(sheet, 0, 1))?;
-    Sheet::sized(edition, entries(sheet), sheet)?.check()
+    opened(sheet)?.check()
 }
 
 // The setting of entry e as a part of the sheet: refuses what `check` refuses, and then an e that is no entry's number.
@@ -35,8 +45,7 @@ pub fn lookup(sheet: &[u8], e: usize) -> Result<&[u8], Refusal>
     ensures refusal { number_in result ≡ check_entry_of sheet.now e }
     ensures part { IfOk result (λ part. part.now ≡ lookup_of sheet.now e) }
 {
-    let edition = Edition::try_from(words::byte_at(sheet, 0, 1))?;
-    Sheet::sized(edition, entries(sheet), sheet)?.lookup(e)
+    opened(sheet)?.lookup(e)
 }
 
 // Refuses what `lookup` refuses.

@@ -31,7 +31,7 @@ impl<'a> Sheet<'a> {
         Ok(Sheet { edition, n, bytes })
     }
 
-    fn setting(&self, e: usize) -> &'a [u8]
+    pub(crate) fn setting(&self, e: usize) -> &'a [u8]
         requires { e < self.now.n }
         ensures { result.now ≡ setting_behind self.now.n self.now.bytes.now e }
     {
@@ -64,10 +64,14 @@ impl<'a> Sheet<'a> {
         ensures part { IfOk result (λ part. part.now ≡ setting_behind self.now.n self.now.bytes.now e) }
     {
         self.check()?;
-        if e < self.n {
-            Ok(self.setting(e))
-        } else {
-            Err(Refusal::Entry)
-        }
+        check_number(e, self.n)?;
+        Ok(self.setting(e))
     }
+}
+
+// Whether e is the number of one of n entries.
+fn check_number(e: usize, n: usize) -> Result<(), Refusal>
+    ensures { number_in result ≡ entry_number_refusal n e }
+{
+    if e < n { Ok(()) } else { Err(Refusal::Entry) }
 }
