@@ -1,21 +1,21 @@
 -- The check of a sheet and of a lookup, by their steps. Assumes nothing.
-use Prim.Native.Nat.{ℕ, zero, suc, ◌+◌, ◌*◌, ◌-◌, ◌≤◌, ◌<◌}
+use Prim.Native.Nat.{ℕ, zero, suc, ◌+◌, ◌*◌, ◌≤◌, ◌<◌}
 use mathlib.Core.Path.{◌≡◌, refl, sym, ◌∙◌}
 use mathlib.Core.Bool.{Bool, true, false}
-use mathlib.Core.List.{List, []}
+use mathlib.Core.List.{List}
 use mathlib.Core.Logic.{◌⊎◌, inl, inr, ⊎_elim}
 use native.Mathlib.Numerals.{add-one}
 use native.Mathlib.Omega.{arith}
-use borrow.Author.Rules.{rules}
 use borrow.Author.Tests.{eqb-true, eqb-false, eq-eqb, ne_eqb, lt-ltb, le-ltb}
 use lib.Dec.{eqb}
-use lib.ListN.{length, get_or, take, drop}
-use Rattle.filter_core.specs.Rows.{◌then◌}
-use Rattle.filter_core.proofs.Rows.{then_zero, none_then, some_then, below, same}
+use lib.ListN.{length, get_or}
+use Rattle.filter_core.proofs.Rows.{then_zero, some_then, below, same}
 use Rattle.sheets.specs.Edition.{edition_byte, edition_of, edition_refusal}
 use Rattle.sheets.specs.Refusal.{first_refusal}
-use Rattle.sheets.specs.Sheet.{entries_of, edition_in, Fits, Sized, setting_behind, size_refusal, refusal_at, check_as, check_of, entry_number_refusal, part_for, check_entry_of}
-use Rattle.sheets.specs.EditionOne.{entries_one, check_entry_one}
+use Rattle.sheets.specs.Sheet.{entries_of, edition_in, Fits, Sized, size_refusal, refusal_at, check_as, check_of, entry_number_refusal, check_entry_of}
+use Rattle.filter_core.specs.Refusal.{number}
+use Rattle.filter_core.specs.declared.refusal.Refusal.{Refusal}
+use Rattle.filter_core.specs.declared.refusal.Refusal.TheVariants as row
 use Rattle.sheets.specs.declared.edition.Edition.{Edition}
 use Rattle.sheets.specs.declared.edition.Edition.TheVariants.{One, Two}
 
@@ -25,9 +25,28 @@ pub first_start : (f : ℕ → ℕ) → first_refusal 0 f ≡ 0
 unfolding first_refusal
 first_start f = refl
 
-pub first_again : (f : ℕ → ℕ) (e : ℕ) {r : ℕ} → first_refusal e f ≡ 0 → r ≡ f e → r ≡ 0 → first_refusal (e + 1) f ≡ 0
+pub first_again : (f : ℕ → ℕ) (e : ℕ) → first_refusal e f ≡ 0 → 0 ≡ f e → first_refusal (e + 1) f ≡ 0
 unfolding first_refusal
-first_again f e p q z = rw (add-one e, p, ← q) z
+first_again f e p q = rw (add-one e, p) (sym q)
+
+-- every refusal has a number of its own, which is not 0
+pub numbered : (x : Refusal) → number x ≡ 0 → ⊥
+numbered row.Head z = omega arith
+numbered row.Size z = omega arith
+numbered row.Kind z = omega arith
+numbered row.Word z = omega arith
+numbered row.Entry z = omega arith
+numbered row.Bare z = omega arith
+numbered row.Mark z = omega arith
+numbered row.Full z = omega arith
+numbered row.Form z = omega arith
+numbered row.Step z = omega arith
+numbered row.Frequency z = omega arith
+numbered row.Short z = omega arith
+numbered row.Series z = omega arith
+numbered row.Unfinished z = omega arith
+numbered row.Finished z = omega arith
+numbered row.Count z = omega arith
 
 pub first_found : (f : ℕ → ℕ) (n e : ℕ) {r : ℕ} → first_refusal e f ≡ 0 → e < n → r ≡ f e → (r ≡ 0 → ⊥) → r ≡ first_refusal n f
 unfolding first_refusal
@@ -37,6 +56,9 @@ first_found f (suc n) e {r} p h q z = go (λ l. first_found f n e p l q z) (eqb 
     go : (e < n → r ≡ first_refusal n f) → (t : Bool) → eqb e n ≡ t → r ≡ first_refusal (suc n) f
     go i true t = let w = eqb-true e n t in q ∙ rw (← w, p) refl
     go i false t = let w = i (omega (arith, eqb-false e n t)) in rw (← w) (some_then r (f n) z)
+
+pub first_refused : (f : ℕ → ℕ) (n e : ℕ) (x : Refusal) → first_refusal e f ≡ 0 → e < n → number x ≡ f e → number x ≡ first_refusal n f
+first_refused f n e x p h q = first_found f n e p h q (numbered x)
 
 pub first_all : (f : ℕ → ℕ) (n : ℕ) → ((e : ℕ) → e < n → f e ≡ 0) → first_refusal n f ≡ 0
 unfolding first_refusal
@@ -51,9 +73,6 @@ first_each f (suc n) e p h = go (then_zero (first_refusal n f) (f n) p) (λ z l.
     go : (first_refusal n f ≡ 0) × (f n ≡ 0) → (first_refusal n f ≡ 0 → e < n → f e ≡ 0) → (t : Bool) → eqb e n ≡ t → f e ≡ 0
     go z i true t = rw (eqb-true e n t) z.1
     go z i false t = i z.0 (omega (arith, eqb-false e n t))
-
-pub first_none : (f : ℕ → ℕ) (n e : ℕ) → first_refusal e f ≡ 0 → e ≤ n → n ≤ e → 0 ≡ first_refusal n f
-first_none f n e p a b = let w : e ≡ n = omega arith in sym (rw w at p)
 
 -- ---- sizes
 
@@ -105,21 +124,6 @@ too_many v n s h = go (fit_of n s)
     go (fit z e) = let w = z.most in absurd (omega arith)
     go (unfit z e) = rw e refl
 
--- the check of n entries by the edition v, by its steps
-module _ (v : Edition) (n : ℕ) (s : List ℕ) where
-  module _ {number : ℕ} (q : number ≡ size_refusal (length s) n) where
-    pub size_refused : (number ≡ 0 → ⊥) → number ≡ check_as v n s
-    size_refused z = rw (← q) (some_then number _ z)
-
-    pub size_accepted : number ≡ 0 → Fits n s
-    size_accepted z = fitting n s (sym q ∙ z)
-
-    pub checked : {r : ℕ} → number ≡ 0 → r ≡ first_refusal n (refusal_at v n s) → r ≡ check_as v n s
-    checked {r} z h = rw (← q, ← h) (none_then number r z)
-
-  check_fits : check_as v n s ≡ 0 → Fits n s
-  check_fits h = fitting n s (then_zero (size_refusal (length s) n) (first_refusal n (refusal_at v n s)) h).0
-
 -- ---- editions
 
 -- a second byte names an edition and is accepted, or neither
@@ -168,10 +172,6 @@ size_of s = go (named_of (get_or s 1 0)) (fit_of (entries_of s) s)
     go (named x p) (unfit y q) = wrong (λ z. y z.fits) (rw (p, q) refl)
     go (named x p) (fit y q) = right (record { edition = x; fits = y }) (rw (p, q) refl)
 
-pub whole : (s : List ℕ) {b a n c r : ℕ} {v : Edition} → b ≡ get_or s 1 0 → a ≡ edition_refusal b → v ≡ edition_in s → n ≡ entries_of s → c ≡ check_as v n s
-    → r ≡ (a then c) → r ≡ check_of s
-whole s x y z w p q = q ∙ rw (y, x, p, z, w) refl
-
 pub check_size : (s : List ℕ) → check_of s ≡ 0 → Sized s
 check_size s h = go (size_of s)
   where
@@ -188,37 +188,8 @@ within : {n e : ℕ} → (e < n) ⊎ (n ≤ e) → entry_number_refusal n e ≡ 
 within (inl h) z = h
 within {n} {e} (inr h) z = let w = entry_past n e h ∙ z in absurd (omega arith)
 
--- what an accepted one tells, of a reader whose check answers c for n entries
-module _ {c n : ℕ} (s : List ℕ) (e : ℕ) (f : c ≡ 0 → Fits n s) where
-  found_with : (c then entry_number_refusal n e) ≡ 0 → Fits n s × (e < n)
-  found_with h = let p = then_zero c (entry_number_refusal n e) h in (f p.0, within (below e n) p.1)
-
-pub found : (s : List ℕ) (e : ℕ) {r n : ℕ} → r ≡ check_entry_of s e → n ≡ entries_of s → r ≡ 0 → Fits n s × (e < n)
-found s e p q z =
-    rw q
-    (found_with s e
-    (λ h. check_fits _ (entries_of s) s (then_zero (edition_refusal (get_or s 1 0)) (check_as (edition_in s) (entries_of s) s) h).1)
-    (sym p ∙ z))
-
-pub found_one : (s : List ℕ) (e : ℕ) {r n : ℕ} → r ≡ check_entry_one s e → n ≡ entries_one s → r ≡ 0 → Fits n s × (e < n)
-found_one s e p q z = rw q (found_with s e (check_fits _ (entries_one s) s) (sym p ∙ z))
-
--- the twelve bytes from a place on, as the code takes them
-abbrev part : List ℕ → ℕ → List ℕ
-part s at = take (at + 12 - at) (drop at s)
-
-pub twelve : (at : ℕ) (s : List ℕ) → part s at ≡ take 12 (drop at s)
-twelve at s = let e : at + 12 - at ≡ 12 = omega arith in rw e refl
-
-module _ (r n : ℕ) (s : List ℕ) (e : ℕ) where
-  pub no_part : (r ≡ 0 → ⊥) → [] ≡ part_for r n s e
-  no_part z = rw (ne_eqb r 0 z) refl
-
-  pub the_part : {x : List ℕ} → r ≡ 0 → x ≡ setting_behind n s e → x ≡ part_for r n s e
-  the_part z q = rw (eq-eqb r 0 z) q
-
-pub ruleset steps = (first_start, first_again, first_found, first_none, rules)
-
-pub ruleset checks = (size_refused, size_accepted, checked, whole, rules)
-
-pub ruleset lookups = (twelve, no_part, the_part, rules)
+-- what an accepted one tells
+pub found : (s : List ℕ) (e : ℕ) → check_entry_of s e ≡ 0 → Fits (entries_of s) s × (e < entries_of s)
+found s e h =
+    let p = then_zero (check_of s) (entry_number_refusal (entries_of s) e) h in
+    ((check_size s p.0).fits, within (below e (entries_of s)) p.1)

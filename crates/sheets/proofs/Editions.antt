@@ -1,5 +1,5 @@
 -- The two editions side by side. Assumes nothing.
-use Prim.Native.Nat.{ℕ, zero, suc, ◌+◌, ◌-◌, ◌*◌, ◌%◌, ◌/◌, ◌≤◌, ◌<◌}
+use Prim.Native.Nat.{ℕ, zero, suc, ◌+◌, ◌*◌, ◌%◌, ◌/◌, ◌≤◌}
 use mathlib.Core.Path.{◌≡◌, refl, sym, ap, ◌∙◌}
 use mathlib.Core.List.{List, ◌∷◌}
 use mathlib.Core.Logic.{◌⊎◌, inl, inr}
@@ -7,48 +7,47 @@ use native.Mathlib.Omega.{arith}
 use borrow.Author.Tests.{ne_eqb}
 use lib.ListN.{length, get_or, drop}
 use lib.Seq.{drop-drop, get_or-drop}
-use Rattle.filter_core.specs.Rows.{◌then◌}
-use Rattle.filter_core.proofs.Rows.{then_zero, below, same}
+use Rattle.std.specs.Prelude.{Option, Some, None, slice_get}
+use Rattle.std.specs.Option.{option_and_then}
+use Rattle.filter_core.proofs.Rows.{then_zero, same}
 use Rattle.sheets.specs.Edition.{approximations_in, edition_refusal}
 use Rattle.sheets.specs.Kind.{setter_for, setter_in, setter_of, kind_refusal}
-use Rattle.sheets.specs.Refusal.{first_refusal, used, words_refusal, setting_refusal, entry_refusal}
+use Rattle.sheets.specs.Refusal.{first_refusal, refusal_by, entry_refusal}
 use Rattle.sheets.specs.Sheet.{entries_of, kind_at, setting_behind, entry_among, size_refusal, refusal_at, check_of}
 use Rattle.sheets.specs.EditionOne.{entries_one, check_one}
 use Rattle.sheets.specs.Editions.{Declined, Agreed, Found, Raised, BothEditions}
 use Rattle.sheets.specs.declared.edition.Edition.{Edition}
 use Rattle.sheets.specs.declared.edition.Edition.TheVariants.{One, Two}
 use Rattle.sheets.specs.declared.entry.Entry.{Entry}
-use Rattle.sheets.specs.declared.setter.Setter.TheVariants.{Unknown}
-use Rattle.sheets.proofs.KindBytes.{unknowns}
+use Rattle.sheets.specs.declared.setter.Setter.{Setter}
 use Rattle.sheets.proofs.Checks.{first_all, first_each, too_many}
 
 -- ---- the setters of edition 1: those of edition 2 up to approximation 3, and no other
 
-four : (k p : ℕ) → p < 4 → setter_for (approximations_in One) k p ≡ setter_for (approximations_in Two) k p
-four k zero h = refl
-four k (suc zero) h = refl
-four k (suc (suc zero)) h = refl
-four k (suc (suc (suc zero))) h = refl
-four k (suc (suc (suc (suc p)))) h = absurd (omega arith)
+-- by the setter's kind k and its approximation p
+abbrev named : Edition → ℕ → ℕ → Option Setter
+named v k p = option_and_then (setter_for k) (slice_get (approximations_in v) p)
 
-past_four : (k p : ℕ) → 4 ≤ p → setter_for (approximations_in One) k p ≡ Unknown
-past_four k p h = let e : p ≡ suc (suc (suc (suc (p - 4)))) = omega arith in rw e (unknowns 8 k)
+four : (k p : ℕ) → kind_refusal (named One k p) ≡ 0 → named One k p ≡ named Two k p
+four k zero z = refl
+four k (suc zero) z = refl
+four k (suc (suc zero)) z = refl
+four k (suc (suc (suc zero))) z = refl
+four k (suc (suc (suc (suc p)))) z = absurd (omega arith)
 
 -- a byte that an edition takes names the setter that a load goes by
 one_setter : (v : Edition) (b : ℕ) → kind_refusal (setter_in v b) ≡ 0 → setter_in v b ≡ setter_of b
 one_setter Two b z = refl
-one_setter One b z = go (below (b / 16) 4)
-  where
-    go : (b / 16 < 4) ⊎ (4 ≤ b / 16) → setter_in One b ≡ setter_of b
-    go (inl h) = four (b % 16) (b / 16) h
-    go (inr h) = let w : kind_refusal Unknown ≡ 0 = rw (past_four (b % 16) (b / 16) h) at z in absurd (omega arith)
+one_setter One b z = four (b % 16) (b / 16) z
+
+kind_right : (o : Option Setter) (t : Entry) → refusal_by o t ≡ 0 → kind_refusal o ≡ 0
+kind_right (Some s) t z = refl
+kind_right None t z = z
 
 -- and so does an entry that the check takes
 pub entry_setter : (v : Edition) (t : Entry) → entry_refusal v t ≡ 0 → setter_in v t.kind ≡ setter_of t.kind
 unfolding entry_refusal
-entry_setter v t z =
-    let s = setter_in v t.kind in
-    one_setter v t.kind (then_zero (kind_refusal s) (words_refusal (used s) t then setting_refusal s t.a) z).0
+entry_setter v t z = one_setter v t.kind (kind_right (setter_in v t.kind) t z)
 
 -- ---- the reader of edition 1
 

@@ -6,16 +6,17 @@ use native.Mathlib.Omega.{arith}
 use borrow.Author.Tests.{eqb-true, eqb-false, ltb-true, ltb-false}
 use lib.Dec.{eqb, ltb}
 use lib.Ieee.{is_nan}
+use Rattle.std.specs.Prelude.{Option}
 use Rattle.filter_core.specs.Arithmetic.{word}
 use Rattle.words.specs.Word.{written_nan}
 use Rattle.filter_core.specs.Rows.{◌then◌, here, later}
 use Rattle.words.proofs.Words.{nan_test}
 use Rattle.filter_core.proofs.Rows.{Step, yes, no, step_to, first_then, first_last}
 use Rattle.sheets.specs.Edition.{edition_of}
-use Rattle.sheets.specs.Kind.{setter_in}
-use Rattle.sheets.specs.Refusal.{word_refusal, words_refusal, entry_refusal}
+use Rattle.sheets.specs.Refusal.{word_refusal, words_refusal, refusal_by, entry_refusal}
 use Rattle.sheets.specs.Rows.{KindWrong, WordWrong, unused, another_nan, WordsWrong, wrong_a, wrong_b, wrong_c, FrequencyWrong, words_used, EntryCase, wrong_kind, wrong_words, wrong_frequency, EntryRow}
 use Rattle.sheets.specs.declared.entry.Entry.{Entry}
+use Rattle.sheets.specs.declared.setter.Setter.{Setter}
 use Rattle.sheets.proofs.KindRows.{Kind, wrong, right, kind_of}
 
 -- ---- words
@@ -77,10 +78,10 @@ pub entry_row : (b : ℕ) (t : Entry) → EntryRow b t (entry_refusal (edition_o
 unfolding entry_refusal
 entry_row b t = go (kind_of b (t.kind % 16) (t.kind / 16))
   where
-    go : Kind b (t.kind % 16) (t.kind / 16) (setter_in (edition_of b) t.kind) → EntryRow b t (entry_refusal (edition_of b) t)
-    go (wrong w e) = rw e (here (wrong_kind w))
-    go (right n e u f) =
-        rw (e, u)
+    go : {o : Option Setter} → Kind b (t.kind % 16) (t.kind / 16) o → EntryRow b t (refusal_by o t)
+    go (wrong w) = here (wrong_kind w)
+    go (right n u f) =
+        rw u
         (later (λ c. n (kind_case refl c))
         (first_then (λ z. omega arith) (step_to wrong_words (words_case refl) (words_step (words_used (t.kind % 16)) t))
         (λ z. first_last (step_to wrong_frequency (frequency_case refl) (f t.a)))))

@@ -1,5 +1,3 @@
-pub mod KindBytes
-pub mod EntryChecks
 pub mod Checks
 pub mod Editions
 pub mod Setters

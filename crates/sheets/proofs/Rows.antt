@@ -101,7 +101,7 @@ module _ (s : List ℕ) (e : ℕ) where
 
   lookup_part : check_entry_of s e ≡ 0 → length (lookup_of s e) ≡ 12
   lookup_part z =
-      let f = found s e refl refl z in
+      let f = found s e z in
       let l = f.0.long in
       let i = f.1 in
       let d = length-drop (2 + entries_of s + 12 * e) s in

@@ -1,5 +1,5 @@
 -- The number that an entry is refused with: `kind` 3, then `word` 4, then `frequency` 11 of the refusal table; 0 where it is not.
-use Rattle.std.specs.Prelude.{ℕ, zero, suc, cond, eqb, ltb}
+use Rattle.std.specs.Prelude.{ℕ, zero, suc, cond, eqb, ltb, Option, Some, None}
 use Rattle.filter_core.specs.Arithmetic.{word}
 use Rattle.filter_core.specs.Refusal.{frequency_refusal}
 use Rattle.filter_core.specs.declared.FrequencyApproximation.{FrequencyApproximation}
@@ -9,7 +9,7 @@ use Rattle.sheets.specs.Kind.{setter_in, kind_refusal}
 use Rattle.sheets.specs.declared.edition.Edition.{Edition}
 use Rattle.sheets.specs.declared.entry.Entry.{Entry}
 use Rattle.sheets.specs.declared.setter.Setter.{Setter}
-use Rattle.sheets.specs.declared.setter.Setter.TheVariants.{DcBlocker, OnePole, SvfFrequency, SvfCoefficients, NaiveSvf, ModifiedSvf, CrossoverSvf, Unknown}
+use Rattle.sheets.specs.declared.setter.Setter.TheVariants.{DcBlocker, OnePole, SvfFrequency, SvfCoefficients, NaiveSvf, ModifiedSvf, CrossoverSvf}
 
 -- the first refusal of f 0, f 1, .., f (n - 1)
 unfoldable pub first_refusal : ℕ → (ℕ → ℕ) → ℕ
@@ -25,7 +25,6 @@ used SvfCoefficients = 3
 used (NaiveSvf p) = 2
 used ModifiedSvf = 2
 used CrossoverSvf = 2
-used Unknown = 0
 
 -- the word at the place k (a 0, b 1, c 2) of a setter that uses the first u: another NaN, or unused and not zero
 abbrev pub word_refusal : ℕ → ℕ → ℕ → ℕ
@@ -47,11 +46,11 @@ setting_refusal SvfCoefficients a = 0
 setting_refusal (NaiveSvf p) a = word_frequency_refusal a p
 setting_refusal ModifiedSvf a = 0
 setting_refusal CrossoverSvf a = 0
-setting_refusal Unknown a = 0
 
 -- an entry with the setter s: 3, then 4, then 11
-abbrev refusal_by : Setter → Entry → ℕ
-refusal_by s t = kind_refusal s then words_refusal (used s) t then setting_refusal s t.a
+abbrev pub refusal_by : Option Setter → Entry → ℕ
+refusal_by (Some s) t = words_refusal (used s) t then setting_refusal s t.a
+refusal_by None t = kind_refusal None
 
 -- an entry of a sheet of the edition v
 unfoldable pub entry_refusal : Edition → Entry → ℕ

@@ -1,5 +1,5 @@
 -- A sheet's 11 is the setter's: `frequency_refusal` is the number in the contracts of set_f and both set_f_q.
-use Rattle.std.specs.Prelude.{◌≡◌}
+use Rattle.std.specs.Prelude.{◌≡◌, Some}
 use Rattle.filter_core.specs.Arithmetic.{word}
 use Rattle.filter_core.specs.Refusal.{frequency_refusal}
 use Rattle.filter_core.specs.declared.FrequencyApproximation.{FrequencyApproximation}
@@ -18,7 +18,7 @@ pub data FrequencySetter : Setter → FrequencyApproximation → Type 0 where
 
 pub record AsSetters : Type 0 where
   -- an entry that is right in its kind and its words gets the number that its setter answers for its f
-  pub same : (v : Edition) (t : Entry) (p : FrequencyApproximation) → FrequencySetter (setter_in v t.kind) p → words_refusal (used (setter_in v t.kind)) t ≡ 0
+  pub same : (v : Edition) (t : Entry) (s : Setter) (p : FrequencyApproximation) → setter_in v t.kind ≡ Some s → FrequencySetter s p → words_refusal (used s) t ≡ 0
       → entry_refusal v t ≡ frequency_refusal (word t.a) p
   -- so no setter refuses an entry of a sheet
-  pub taken : (v : Edition) (t : Entry) (p : FrequencyApproximation) → FrequencySetter (setter_in v t.kind) p → entry_refusal v t ≡ 0 → frequency_refusal (word t.a) p ≡ 0
+  pub taken : (v : Edition) (t : Entry) (s : Setter) (p : FrequencyApproximation) → setter_in v t.kind ≡ Some s → FrequencySetter s p → entry_refusal v t ≡ 0 → frequency_refusal (word t.a) p ≡ 0

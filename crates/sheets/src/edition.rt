@@ -1,38 +1,39 @@
 // The edition of a sheet, which its second byte says.
 
-ghost use Rattle.std.specs.Prelude.{◌≡◌};
+ghost use Rattle.std.specs.Prelude.{◌≡◌, IfOk};
+ghost use Rattle.filter_core.specs.Refusal.{number_in};
 ghost use Rattle.sheets.specs.Edition.{edition_byte, edition_of, edition_refusal};
 
-#[derive(Clone, Copy)]
+use filter_core::Refusal;
+
+#[derive(Clone, Copy, Debug, PartialEq, Eq)]
 pub enum Edition {
     One,
     Two,
 }
 
-pub fn edition_byte(edition: Edition) -> u8
-    ensures { result ≡ edition_byte edition }
-{
-    match edition {
-        Edition::One => 0,
-        Edition::Two => 2,
+impl From<Edition> for u8 {
+    ghost from_gives = { λ edition byte. byte ≡ edition_byte edition };
+
+    fn from(edition: Edition) -> u8 {
+        match edition {
+            Edition::One => 0,
+            Edition::Two => 2,
+        }
     }
 }
 
-// A byte that is no edition's counts as edition 1's here; `edition_refusal` refuses it.
-pub fn edition_of(byte: u8) -> Edition
-    ensures { result ≡ edition_of byte }
-{
-    match byte {
-        2 => Edition::Two,
-        _ => Edition::One,
-    }
-}
+// Any other byte is refused.
+impl TryFrom<u8> for Edition {
+    type Error = Refusal;
 
-pub(crate) fn edition_refusal(byte: u8) -> u8
-    ensures { result ≡ edition_refusal byte }
-{
-    if byte == 0 {
-        return 0;
+    ghost try_from_gives = { λ byte result. (number_in result ≡ edition_refusal byte) × IfOk result (λ edition. edition ≡ edition_of byte) };
+
+    fn try_from(byte: u8) -> Result<Edition, Refusal> {
+        match byte {
+            0 => Ok(Edition::One),
+            2 => Ok(Edition::Two),
+            _ => Err(Refusal::Size),
+        }
     }
-    if byte == 2 { 0 } else { 2 }
 }

@@ -3,7 +3,7 @@
 ghost use Rattle.std.specs.Prelude.{◌≡◌};
 ghost use Rattle.sheets.specs.Sheet.{entry_of};
 
-#[derive(Clone, Copy)]
+#[derive(Clone, Copy, Debug, PartialEq, Eq)]
 pub struct Entry {
     pub kind: u8,
     pub a: u32,
@@ -16,7 +16,7 @@ pub fn entry_of(kind: u8, setting: &[u8]) -> Entry
     ensures { result ≡ entry_of kind setting.now }
 {
     Entry {
-        kind: kind,
+        kind,
         a: words::word_at(setting, 0),
         b: words::word_at(setting, 4),
         c: words::word_at(setting, 8),

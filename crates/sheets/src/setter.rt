@@ -1,16 +1,13 @@
 // Which setter an entry's kind byte names, and with which approximation.
 
-ghost use Rattle.std.specs.Prelude.{◌≡◌, ℕ, suc, ◌<◌, cond, [], ◌∷◌, ltb, length, get_or};
-ghost use Rattle.filter_core.specs.declared.FrequencyApproximation.TheVariants.{Series};
+ghost use Rattle.std.specs.Prelude.{◌≡◌, slice_get};
 ghost use Rattle.sheets.specs.Edition.{approximations_in};
-ghost use Rattle.sheets.specs.Kind.{setter_for, setter_in, setter_of};
-ghost use Rattle.sheets.specs.declared.edition.Edition.TheVariants.{Two};
-ghost use Rattle.sheets.specs.declared.setter.Setter.TheVariants.{Unknown};
+ghost use Rattle.sheets.specs.Kind.{exact, setter_for, setter_in, setter_of};
 
 use crate::edition::Edition;
 use filter_core::FrequencyApproximation;
 
-#[derive(Clone, Copy)]
+#[derive(Clone, Copy, Debug, PartialEq, Eq)]
 pub enum Setter {
     DcBlocker,
     OnePole(FrequencyApproximation),
@@ -19,93 +16,56 @@ pub enum Setter {
     NaiveSvf(FrequencyApproximation),
     ModifiedSvf,
     CrossoverSvf,
-    Unknown,
 }
 
-// ---- the limits of a kind byte's high half (02 d); that they are below 5 is for the choice behind them
-
-// The last approximation that an edition has.
-fn last_approximation(edition: Edition) -> u8
-    ensures edition_len { length (approximations_in edition) ≡ suc result }
-    ensures upper_bound { result < 5 }
+// The approximation of a kind byte's high half, of those that the edition has (02 d).
+fn approximation_in(edition: Edition, n: u8) -> Option<FrequencyApproximation>
+    ensures { result ≡ slice_get (approximations_in edition) n }
 {
-    match edition {
-        Edition::One => 3,
-        Edition::Two => 4,
+    match (n, edition) {
+        (0, _) => Some(FrequencyApproximation::Exact),
+        (1, _) => Some(FrequencyApproximation::Accurate),
+        (2, _) => Some(FrequencyApproximation::Fast),
+        (3, _) => Some(FrequencyApproximation::Dirty),
+        (4, Edition::Two) => Some(FrequencyApproximation::Series),
+        _ => None,
     }
 }
 
-// The last that a kind takes: 2, 3 and 5 take all that the edition has, the others 0 alone. Past it there is no setter, up to it the kind's,
-// which `setter_for` has of a list with that approximation alone.
-fn last_for_kind(edition: Edition, kind: u8) -> u8
-    requires { 0 < kind }
-    ensures by_index { (p : ℕ) → setter_for (approximations_in edition) kind p
-        ≡ cond (ltb result p) Unknown (setter_for (get_or (approximations_in edition) p Series ∷ []) kind 0) }
-    ensures upper_bound { result < 5 }
+// A setter that takes approximation 0 only.
+fn exact(setter: Setter, approximation: FrequencyApproximation) -> Option<Setter>
+    ensures { result ≡ exact setter approximation }
 {
-    if kind < 2 {
-        return 0;
-    }
-    if kind == 4 {
-        return 0;
-    }
-    if 5 < kind {
-        return 0;
-    }
-    last_approximation(edition)
-}
-
-// ---- the choice of what the limits let through: the last arm is the last case
-
-fn approximation_of(n: u8) -> FrequencyApproximation
-    requires { n < 5 }
-    ensures { result ≡ get_or (approximations_in Two) n Series }
-{
-    match n {
-        0 => FrequencyApproximation::Exact,
-        1 => FrequencyApproximation::Accurate,
-        2 => FrequencyApproximation::Fast,
-        3 => FrequencyApproximation::Dirty,
-        _ => FrequencyApproximation::Series,
+    match approximation {
+        FrequencyApproximation::Exact => Some(setter),
+        _ => None,
     }
 }
 
-fn setter_for(kind: u8, approximation: FrequencyApproximation) -> Setter
-    requires { (0 < kind) × (kind < 8) }
-    ensures { result ≡ setter_for (approximation ∷ []) kind 0 }
+fn setter_for(kind: u8, approximation: FrequencyApproximation) -> Option<Setter>
+    ensures { result ≡ setter_for kind approximation }
 {
     match kind {
-        1 => Setter::DcBlocker,
-        2 => Setter::OnePole(approximation),
-        3 => Setter::SvfFrequency(approximation),
-        4 => Setter::SvfCoefficients,
-        5 => Setter::NaiveSvf(approximation),
-        6 => Setter::ModifiedSvf,
-        _ => Setter::CrossoverSvf,
+        1 => exact(Setter::DcBlocker, approximation),
+        2 => Some(Setter::OnePole(approximation)),
+        3 => Some(Setter::SvfFrequency(approximation)),
+        4 => exact(Setter::SvfCoefficients, approximation),
+        5 => Some(Setter::NaiveSvf(approximation)),
+        6 => exact(Setter::ModifiedSvf, approximation),
+        7 => exact(Setter::CrossoverSvf, approximation),
+        _ => None,
     }
 }
 
-// ---- a kind byte: its low half is the kind, its high half the approximation
-
-pub fn setter_in(edition: Edition, kind: u8) -> Setter
+// A kind byte: its low half is the kind, its high half the approximation. None where it names no setter.
+pub fn setter_in(edition: Edition, kind: u8) -> Option<Setter>
     ensures { result ≡ setter_in edition kind }
 {
-    let low = kind % 16;
-    let high = kind / 16;
-    if low < 1 {
-        return Setter::Unknown;
-    }
-    if 7 < low {
-        return Setter::Unknown;
-    }
-    if last_for_kind(edition, low) < high {
-        return Setter::Unknown;
-    }
-    setter_for(low, approximation_of(high))
+    setter_for(kind % 16, approximation_in(edition, kind / 16)?)
 }
 
 // As a load asks for it: by edition 2, where a byte of edition 1 means the same.
-pub fn setter_of(kind: u8) -> Setter
+pub fn setter_of(kind: u8) -> Option<Setter>
     ensures { result ≡ setter_of kind }
 {
     setter_in(Edition::Two, kind)

@@ -1,0 +1,5 @@
+use Rattle.sheets.proofs.Returns.{words_return}
+use Rattle.sheets.proofs.words_return.Goals as goal
+
+pub returns : goal.returns
+returns c = words_return

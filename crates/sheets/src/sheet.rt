@@ -1,0 +1,77 @@
+// Bytes that have the size of a sheet, and what they hold.
+
+ghost use Rattle.std.specs.Prelude.{◌≡◌, ◌<◌, length, IfOk};
+ghost use Rattle.filter_core.specs.Refusal.{number_in};
+ghost use Rattle.filter_core.specs.Rows.{◌then◌};
+ghost use Rattle.sheets.specs.Refusal.{first_refusal};
+ghost use Rattle.sheets.specs.Sheet.{Fits, size_refusal, setting_behind, entry_among, refusal_at, entry_number_refusal};
+
+use crate::edition::Edition;
+use crate::entry::{Entry, entry_of};
+use crate::refusal::check_entry;
+use filter_core::Refusal;
+
+// As many bytes as n entries take, to be read by an edition. Both readers make one, each in its way.
+#[derive(Clone, Copy)]
+pub(crate) struct Sheet<'a> {
+    edition: Edition,
+    n: usize,
+    bytes: &'a [u8],
+    ghost fits: { Fits n bytes.now },
+}
+
+impl<'a> Sheet<'a> {
+    pub(crate) fn sized(edition: Edition, n: usize, bytes: &'a [u8]) -> Result<Sheet<'a>, Refusal>
+        ensures refusal { number_in result ≡ size_refusal (length bytes.now) n }
+        ensures sheet { IfOk result (λ s. (s.edition ≡ edition) × (s.n ≡ n) × (s.bytes.now ≡ bytes.now)) }
+    {
+        if n < 1 || 64 < n || bytes.len() != 2 + 13 * n {
+            return Err(Refusal::Size);
+        }
+        Ok(Sheet { edition, n, bytes })
+    }
+
+    pub(crate) fn setting(&self, e: usize) -> &'a [u8]
+        requires { e < self.now.n }
+        ensures { result.now ≡ setting_behind self.now.n self.now.bytes.now e }
+    {
+        let at = 2 + self.n + 12 * e;
+        &self.bytes[at..at + 12]
+    }
+
+    fn entry(&self, e: usize) -> Entry
+        requires { e < self.now.n }
+        ensures { result ≡ entry_among self.now.n self.now.bytes.now e }
+    {
+        entry_of(words::byte_at(self.bytes, 2, e), self.setting(e))
+    }
+
+    // Entry by entry.
+    #[tactic(auto, using(crate::proofs::Checks::first_start, crate::proofs::Checks::first_again, crate::proofs::Checks::first_refused))]
+    pub(crate) fn check(&self) -> Result<(), Refusal>
+        ensures { number_in result ≡ first_refusal self.now.n (refusal_at self.now.edition self.now.n self.now.bytes.now) }
+    {
+        for e in 0..self.n {
+            check_entry(self.edition, self.entry(e))?;
+        }
+        Ok(())
+    }
+
+    // The setting of entry e as a part of the sheet.
+    pub(crate) fn lookup(&self, e: usize) -> Result<&'a [u8], Refusal>
+        ensures refusal { number_in result
+            ≡ (first_refusal self.now.n (refusal_at self.now.edition self.now.n self.now.bytes.now) then entry_number_refusal self.now.n e) }
+        ensures part { IfOk result (λ part. part.now ≡ setting_behind self.now.n self.now.bytes.now e) }
+    {
+        self.check()?;
+        check_number(e, self.n)?;
+        Ok(self.setting(e))
+    }
+}
+
+// Whether e is the number of one of n entries.
+fn check_number(e: usize, n: usize) -> Result<(), Refusal>
+    ensures { number_in result ≡ entry_number_refusal n e }
+{
+    if e < n { Ok(()) } else { Err(Refusal::Entry) }
+}
