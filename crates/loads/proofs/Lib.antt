@@ -1,4 +1,3 @@
-pub mod Loads
 pub mod Rest
 pub mod Set
 pub mod Editions

@@ -2,6 +2,7 @@
 use Prim.Native.Nat.{ℕ}
 use mathlib.Core.Path.{◌≡◌, refl}
 use mathlib.Core.Bool.{Bool, true, false, cond}
+use Rattle.std.specs.Prelude.{unwrap_or}
 use lib.Dec.{eqb}
 use lib.Ieee.{Float}
 use Rattle.filter_core.specs.Arithmetic.{word}
@@ -9,11 +10,12 @@ use Rattle.filter_core.specs.Refusal.{frequency_refusal, unless_refused}
 use Rattle.one_pole.specs.OnePole.{one_pole_new, one_pole_set_f}
 use Rattle.svf.specs.Svf.{svf_new, svf_set_f_q}
 use Rattle.naive_svf.specs.NaiveSvf.{naive_new, naive_set_f_q}
-use Rattle.any_filter.specs.Cases.{of_one_pole, of_svf, of_naive, rested}
+use Rattle.any_filter.specs.Cases.{rested}
 use Rattle.any_filter.specs.declared.Filter.{Filter}
+use Rattle.any_filter.specs.declared.Filter.TheVariants as type
 use Rattle.sheets.specs.Kind.{setter_of}
 use Rattle.sheets.specs.declared.setter.Setter.{Setter}
-use Rattle.sheets.specs.declared.setter.Setter.TheVariants.{DcBlocker, OnePole, SvfFrequency, SvfCoefficients, NaiveSvf, ModifiedSvf, CrossoverSvf, Unknown}
+use Rattle.sheets.specs.declared.setter.Setter.TheVariants.{DcBlocker, OnePole, SvfFrequency, SvfCoefficients, NaiveSvf, ModifiedSvf, CrossoverSvf}
 use Rattle.loads.specs.Load.{filter_for}
 use Rattle.loads.specs.Rest.{LoadsAtRest}
 
@@ -29,15 +31,14 @@ set_still of n new set p q = go (eqb n 0)
     go false = p
 
 still : (s : Setter) (a b c : Float) → Still (filter_for s a b c)
-unfolding filter_for rested
+unfolding filter_for
 still DcBlocker a b c = refl
-still (OnePole p) a b c = set_still of_one_pole (frequency_refusal a p) one_pole_new (one_pole_set_f one_pole_new a p) refl refl
-still (SvfFrequency p) a b c = set_still of_svf (frequency_refusal a p) svf_new (svf_set_f_q svf_new a b p) refl refl
+still (OnePole p) a b c = set_still type.OnePole (frequency_refusal a p) one_pole_new (one_pole_set_f one_pole_new a p) refl refl
+still (SvfFrequency p) a b c = set_still type.Svf (frequency_refusal a p) svf_new (svf_set_f_q svf_new a b p) refl refl
 still SvfCoefficients a b c = refl
-still (NaiveSvf p) a b c = set_still of_naive (frequency_refusal a p) naive_new (naive_set_f_q naive_new a b p) refl refl
+still (NaiveSvf p) a b c = set_still type.NaiveSvf (frequency_refusal a p) naive_new (naive_set_f_q naive_new a b p) refl refl
 still ModifiedSvf a b c = refl
 still CrossoverSvf a b c = refl
-still Unknown a b c = refl
 
 pub loads_at_rest : LoadsAtRest
-loads_at_rest e = still (setter_of e.kind) (word e.a) (word e.b) (word e.c)
+loads_at_rest e = still (unwrap_or (setter_of e.kind) DcBlocker) (word e.a) (word e.b) (word e.c)

@@ -1,10 +1,11 @@
 -- An entry that the check takes is set: its setter's number is 0. Assumes nothing.
 use Prim.Native.Nat.{ℕ}
-use mathlib.Core.Path.{◌≡◌, refl, sym, ap, subst, ◌∙◌}
+use Rattle.std.specs.Prelude.{Some}
+use mathlib.Core.Path.{◌≡◌, refl, sym, ap, ◌∙◌}
 use Rattle.filter_core.specs.Arithmetic.{word}
 use Rattle.filter_core.specs.Refusal.{frequency_refusal, unless_refused}
 use Rattle.filter_core.proofs.Refusals.{goes}
-use Rattle.any_filter.specs.Cases.{of_one_pole, of_svf, of_naive}
+use Rattle.any_filter.specs.declared.Filter.TheVariants as type
 use Rattle.any_filter.specs.declared.Filter.{Filter}
 use Rattle.sheets.specs.Kind.{setter_of}
 use Rattle.sheets.specs.Setters.{FrequencySetter, one_pole, svf, naive}
@@ -22,10 +23,10 @@ pub loads_are_set : LoadsAreSet
 unfolding filter_for
 loads_are_set v t p z =
     record {
-      one_pole = λ e. rw e (accepted of_one_pole _ _ (taken e one_pole));
-      svf = λ e. rw e (accepted of_svf _ _ (taken e svf));
-      naive = λ e. rw e (accepted of_naive _ _ (taken e naive));
+      one_pole = λ e. rw e (accepted type.OnePole _ _ (taken e one_pole));
+      svf = λ e. rw e (accepted type.Svf _ _ (taken e svf));
+      naive = λ e. rw e (accepted type.NaiveSvf _ _ (taken e naive));
     }
   where
-    taken : {s : Setter} → setter_of t.kind ≡ s → FrequencySetter s p → frequency_refusal (word t.a) p ≡ 0
-    taken e f = as_setters.taken v t p (subst (λ s. FrequencySetter s p) (sym (entry_setter v t z ∙ e)) f) z
+    taken : {s : Setter} → setter_of t.kind ≡ Some s → FrequencySetter s p → frequency_refusal (word t.a) p ≡ 0
+    taken {s} e f = as_setters.taken v t s p (entry_setter v t z ∙ e) f z

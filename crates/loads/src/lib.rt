@@ -16,31 +16,48 @@ use one_pole::OnePole;
 use sheets::{Entry, Setter};
 use svf::Svf;
 
-// New of the setter's type, and then the setter. It takes as many of the three numbers as it has parameters.
+// New of the setter's type, and then the setter, which takes as many of the three numbers as it has parameters. One that is refused leaves
+// the new filter; no entry of a sheet is.
+#[tactic(auto, unfolding(crate::specs::Load::filter_for))]
 fn filter_for(setter: Setter, a: f32, b: f32, c: f32) -> Filter
     ensures { result ≡ filter_for setter a b c }
 {
     match setter {
-        Setter::DcBlocker => any_filter::of_dc(DcBlocker::new().init(a)),
+        Setter::DcBlocker => {
+            let mut filter = DcBlocker::new();
+            filter.init(a);
+            Filter::DcBlocker(filter)
+        }
         Setter::OnePole(approximation) => {
-            let set = OnePole::new().set_f(a, approximation);
-            let filter = set.filter;
-            any_filter::of_one_pole(filter)
+            let mut filter = OnePole::new();
+            let _ = filter.set_f(a, approximation);
+            Filter::OnePole(filter)
         }
         Setter::SvfFrequency(approximation) => {
-            let set = Svf::new().set_f_q(a, b, approximation);
-            let filter = set.filter;
-            any_filter::of_svf(filter)
+            let mut filter = Svf::new();
+            let _ = filter.set_f_q(a, b, approximation);
+            Filter::Svf(filter)
         }
-        Setter::SvfCoefficients => any_filter::of_svf(Svf::new().set_g_r_h(a, b, c)),
+        Setter::SvfCoefficients => {
+            let mut filter = Svf::new();
+            filter.set_g_r_h(a, b, c);
+            Filter::Svf(filter)
+        }
         Setter::NaiveSvf(approximation) => {
-            let set = NaiveSvf::new().set_f_q(a, b, approximation);
-            let filter = set.filter;
-            any_filter::of_naive(filter)
+            let mut filter = NaiveSvf::new();
+            let _ = filter.set_f_q(a, b, approximation);
+            Filter::NaiveSvf(filter)
         }
-        Setter::ModifiedSvf => any_filter::of_modified(ModifiedSvf::new().set_f_fq(a, b)),
-        Setter::CrossoverSvf => any_filter::of_crossover(CrossoverSvf::new().set_f_fq(a, b)),
-        Setter::Unknown => any_filter::of_dc(DcBlocker::new().init(a)),
+        Setter::ModifiedSvf => {
+            let mut filter = ModifiedSvf::new();
+            filter.set_f_fq(a, b);
+            Filter::ModifiedSvf(filter)
+        }
+        Setter::CrossoverSvf => {
+            let mut filter = CrossoverSvf::new();
+            filter.set_f_fq(a, b);
+            Filter::CrossoverSvf(filter.into())
+        }
     }
 }
 
@@ -51,21 +68,26 @@ pub fn filter_of(entry: Entry) -> Filter
     let a = words::word_to_f32(entry.a);
     let b = words::word_to_f32(entry.b);
     let c = words::word_to_f32(entry.c);
-    filter_for(sheets::setter_of(entry.kind), a, b, c)
+    // A kind byte that names no setter, which no sheet has, is read as a DC blocker's.
+    let setter = sheets::setter_of(entry.kind).unwrap_or(Setter::DcBlocker);
+    filter_for(setter, a, b, c)
 }
 
 // What a load makes is at rest already.
+#[tactic(auto, using(crate::proofs::Rest::loads_at_rest))]
 pub fn loads_at_rest()
     ensures { LoadsAtRest }
 {}
 
 // What a load makes of an entry that the check takes is what the setter makes: no setter refuses it.
+#[tactic(auto, using(crate::proofs::Set::loads_are_set))]
 pub fn loads_are_set()
     ensures { LoadsAreSet }
 {}
 
 // A load asks for no edition: an entry makes the filter that its own edition gives it, and a sheet of edition 1 makes what a reader of
 // edition 1 finds in it.
+#[tactic(auto, using(crate::proofs::Editions::loads_in_both_editions))]
 pub fn loads_in_both_editions()
     ensures { LoadsInBothEditions }
 {}
