@@ -8,6 +8,8 @@ use borrow.Author.Tests.{ltb-true, ltb-false, leb-false, le-ltb}
 use lib.ListN.{length, get_or, take, set, length-append, length-take, get_or-eq_default}
 use lib.Seq.{length-take-le, get_or-take}
 use lib.Dec.{eqb, leb, ltb, eqb-suc-suc, eqb-zero-suc, eqb-suc-zero}
+use Rattle.std.proofs.Math.ListN.{get_or-map}
+use Rattle.std.proofs.lemmas.List.{take-map, length-map, map-append}
 use Rattle.filter_core.specs.Buffer.{within}
 use Rattle.filter_core.specs.Refusal.{unless_refused}
 use Rattle.sheets.specs.declared.entry.Entry.{Entry}
@@ -15,50 +17,15 @@ use Rattle.any_filter.specs.Cases.{type_of}
 use Rattle.any_filter.specs.declared.FilterType.{FilterType}
 use Rattle.any_filter.specs.declared.Filter.{Filter}
 use Rattle.runs.specs.Form.{run_refusal, run_two_refusal}
-use Rattle.lists.specs.Table.{table}
 use Rattle.heads.specs.Act.{Act, run, run_two, rest, mark, back, drop, count, HeadReply, answered, marked}
 use Rattle.heads.specs.Snapshot.{empty_snapshot, loaded_with, Sewn, left, on_filter, run_number, run_by, run_sewn, run_two_by, run_two_sewn, rest_by, rest_sewn}
-use Rattle.heads.specs.Head.{empty_head, holding, Turned, refuse_turn, accept_turn, put, last_mark, next_mark, marked_head, mark_by, marks_below, only_if, restored, back_head, drop_head, at_mark, turn}
+use Rattle.heads.specs.Head.{head_with, empty_head, holding, Turned, refuse_turn, accept_turn, put, last_mark, next_mark, marked_head, mark_by, restored, back_head, drop_head, at_mark, turn}
 use Rattle.heads.specs.History.{Event, load_event, HeadHistory, no_history, last_type, count_of, unless_bare, no_mark, act_number, adding, grown_by, advance_by, snapshot_from, snapshot_of, accepted_act, act_reply}
 use Rattle.heads.specs.Follows.{head_for, Fits, bare, held, SoundHead, HeadFollows}
-use Rattle.lists.proofs.Tables.{get_or_table, table_ext, set_table}
 use Rattle.heads.proofs.Counts.{count_is}
 use Rattle.heads.proofs.Sound.{snapshot_snoc, sound_none, sound_loaded, sound_advance}
-use Rattle.heads.specs.declared.Slot.{Slot}
-use Rattle.heads.specs.declared.Slot.TheVariants.{Empty, Holds}
+use Rattle.std.specs.Prelude.{Option, None, Some}
 use Rattle.heads.specs.declared.Head.{Head}
-
--- ---- marks
-
-pub cond_out : {A B : Type 0} (g : A → B) (b : Bool) (x y : A) → cond b (g x) (g y) ≡ g (cond b x y)
-cond_out g true x y = refl
-cond_out g false x y = refl
-
-get_or_snoc : {A : Type 0} (l : List A) (x d : A) (j : ℕ) → get_or (l ++ x ∷ []) j d ≡ cond (eqb j (length l)) x (get_or l j d)
-get_or_snoc [] x d zero = refl
-get_or_snoc [] x d (suc j) = rw eqb-suc-zero
-get_or_snoc (y ∷ l) x d zero = rw eqb-zero-suc
-get_or_snoc (y ∷ l) x d (suc j) = get_or_snoc l x d j ∙ rw eqb-suc-suc
-
-marks_snoc : (r : List (List Event)) (l : List Event)
-    → set (table 4 (λ i. snapshot_of (get_or r i []))) (length r) (snapshot_of l) ≡ table 4 (λ i. snapshot_of (get_or (r ++ l ∷ []) i []))
-marks_snoc r l =
-    set_table 4 _ (length r) (snapshot_of l)
-    ∙ table_ext 4 _ _ (λ j h. cond_out snapshot_of (eqb j (length r)) l (get_or r j []) ∙ ap snapshot_of (sym (get_or_snoc r l [] j)))
-
-get_or_cut : {A : Type 0} (k : ℕ) (l : List A) (i : ℕ) (d : A) → get_or (take k l) i d ≡ cond (ltb i k) (get_or l i d) d
-get_or_cut k l i d = go (ltb i k) refl
-  where
-    go : (b : Bool) → ltb i k ≡ b → get_or (take k l) i d ≡ cond (ltb i k) (get_or l i d) d
-    go true q = rw q (get_or-take k l i d (ltb-true i k q))
-    go false q = rw q (get_or-eq_default (take k l) d (omega (arith, length-take k l, ltb-false i k q)))
-
-marks_cut : (r : List (List Event)) (k : ℕ) → marks_below k (table 4 (λ i. snapshot_of (get_or r i []))) ≡ table 4 (λ i. snapshot_of (get_or (take k r) i []))
-unfolding snapshot_from marks_below
-marks_cut r k =
-    table_ext 4 _ _
-    (λ i h. ap (only_if (ltb i k)) (get_or_table 4 (λ j. snapshot_of (get_or r j [])) i empty_snapshot h)
-    ∙ cond_out snapshot_of (ltb i k) (get_or r i []) [] ∙ ap snapshot_of (sym (get_or_cut k r i [])))
 
 -- ---- each call at the head of a history
 
@@ -67,17 +34,17 @@ abbrev unless : Head → Act → ℕ → Turned → Turned
 unless x a n t = unless_refused n (refuse_turn x a n) t
 
 -- a call that asks for the filter: n is its number by the filter's type, t what it does by the filter, u what it comes to
-on_filter_is : (x : Head) (a : Act) (l : List Event) (σ : Slot) (n : FilterType → ℕ) (t : Filter → Sewn) (u : Sewn) → Fits l σ
-    → ((f : Filter) → σ ≡ Holds f → t f ≡ unless_refused (n (type_of f)) (left x.now a (n (type_of f))) u)
+on_filter_is : (x : Head) (a : Act) (l : List Event) (σ : Option Filter) (n : FilterType → ℕ) (t : Filter → Sewn) (u : Sewn) → Fits l σ
+    → ((f : Filter) → σ ≡ Some f → t f ≡ unless_refused (n (type_of f)) (left x.now a (n (type_of f))) u)
     → put x (on_filter σ (left x.now a 6) t) ≡ unless x a (unless_bare l (n (last_type l))) (put x u)
-on_filter_is x a [] Empty n t u bare h = refl
-on_filter_is x a (i ∷ l) (Holds f) n t u (held e) h = rw (← e, h f refl) (go (eqb (n (type_of f)) 0))
+on_filter_is x a [] None n t u bare h = refl
+on_filter_is x a (i ∷ l) (Some f) n t u (held e) h = rw (← e, h f refl) (go (eqb (n (type_of f)) 0))
   where
     go : (b : Bool) → put x (cond b u (left x.now a (n (type_of f)))) ≡ cond b (put x u) (refuse_turn x a (n (type_of f)))
     go true = refl
     go false = refl
-on_filter_is x a [] (Holds f) n t u g h = elim g [ ]
-on_filter_is x a (i ∷ l) Empty n t u g h = elim g [ ]
+on_filter_is x a [] (Some f) n t u g h = elim g [ ]
+on_filter_is x a (i ∷ l) None n t u g h = elim g [ ]
 
 -- a test that gives a number, and then a turn by that number
 by_number : (x : Head) (a : Act) (b : Bool) (n : ℕ) (t : Turned) → eqb n 0 ≡ false → cond b (refuse_turn x a n) t ≡ unless x a (cond b n 0) t
@@ -85,38 +52,30 @@ by_number x a true n t e = rw e
 by_number x a false n t e = refl
 
 -- a mark asks whether there is a filter, and then whether there is room
-on_mark : (x : Head) (l : List Event) (σ : Slot) → Fits l σ
-    → mark_by x σ ≡ unless x mark (unless_bare l (cond (ltb last_mark x.marked) 8 0)) (accept_turn (marked 0 (next_mark x)) (marked_head x))
-on_mark x [] Empty bare = refl
-on_mark x (i ∷ l) (Holds f) (held e) = by_number x mark (ltb last_mark x.marked) _ _ refl
-on_mark x [] (Holds f) g = elim g [ ]
-on_mark x (i ∷ l) Empty g = elim g [ ]
+on_mark : (x : Head) (l : List Event) (σ : Option Filter) → Fits l σ
+    → mark_by x σ ≡ unless x mark (unless_bare l (cond (ltb last_mark (next_mark x)) 8 0)) (accept_turn (marked 0 (next_mark x)) (marked_head x))
+on_mark x [] None bare = refl
+on_mark x (i ∷ l) (Some f) (held e) = by_number x mark (ltb last_mark (next_mark x)) _ _ refl
+on_mark x [] (Some f) g = elim g [ ]
+on_mark x (i ∷ l) None g = elim g [ ]
 
--- the tests of back and drop, of which the second never refuses the head of a history
-there : (x : HeadHistory) (a : Act) (m : ℕ) {y z : Head} → length x.checkpoints ≤ 4 → (m < length x.checkpoints → y ≡ z)
+-- the test of back and drop
+there : (x : HeadHistory) (a : Act) (m : ℕ) {y z : Head} → (m < length x.checkpoints → y ≡ z)
     → at_mark (head_for x) a m (accept_turn (answered 0) y) ≡ unless (head_for x) a (no_mark x m) (accept_turn (answered 0) z)
-there x a m {y} {z} four same = go (leb (length x.checkpoints) m) refl
+there x a m {y} {z} same = rw length-map (go (leb (length x.checkpoints) m) refl)
   where
     go : (b : Bool) → leb (length x.checkpoints) m ≡ b
-        → cond b (refuse_turn (head_for x) a 7) (cond (ltb 3 m) (refuse_turn (head_for x) a 7) (accept_turn (answered 0) y)) ≡ unless (head_for x) a (cond b 7 0) (accept_turn (answered 0) z)
+        → cond b (refuse_turn (head_for x) a 7) (accept_turn (answered 0) y) ≡ unless (head_for x) a (cond b 7 0) (accept_turn (answered 0) z)
     go true q = refl
-    go false q =
-        let h : m < length x.checkpoints = leb-false (length x.checkpoints) m q in rw (le-ltb 3 m (omega arith)) (ap (accept_turn (answered 0)) (same h))
+    go false q = ap (accept_turn (answered 0)) (same (leb-false (length x.checkpoints) m q))
 
 module _ (x : HeadHistory) (S : SoundHead x) where
   back_pictured : (m : ℕ) → m < length x.checkpoints → back_head (head_for x) m ≡ head_for (grown_by x (back m))
-  back_pictured m h =
-      let four = S.four in
-      let old : restored (head_for x) m ≡ snapshot_of (get_or x.checkpoints m []) = get_or_table 4 (λ i. snapshot_of (get_or x.checkpoints i [])) m empty_snapshot (omega arith) in
-      let kept = marks_cut x.checkpoints (m + 1) in
-      let so-many = length-take-le (m + 1) x.checkpoints (omega arith) in
-      cc
+  unfolding snapshot_from
+  back_pictured m h = rw (get_or-map snapshot_of x.checkpoints m [], take-map snapshot_of (m + 1) x.checkpoints) refl
 
-  drop_pictured : (m : ℕ) → m < length x.checkpoints → drop_head (head_for x) m ≡ head_for (grown_by x (drop m))
-  drop_pictured m h =
-      let kept = marks_cut x.checkpoints m in
-      let so-many = length-take-le m x.checkpoints (omega arith) in
-      cc
+  drop_pictured : (m : ℕ) → drop_head (head_for x) m ≡ head_for (grown_by x (drop m))
+  drop_pictured m = rw (take-map snapshot_of m x.checkpoints) refl
 
   -- the turn that the history says, and what a head then holds
 
@@ -127,10 +86,10 @@ module _ (x : HeadHistory) (S : SoundHead x) where
   sewn_by a = record { reply = accepted_act x a; now = snapshot_of (grown_by x a).history }
 
   asks : (a : Act) (n : FilterType → ℕ) (t : Filter → Sewn)
-      → ((f : Filter) → (snapshot_of x.history).slot ≡ Holds f → t f ≡ unless_refused (n (type_of f)) (left (snapshot_of x.history) a (n (type_of f))) (sewn_by a))
-      → put (head_for x) (on_filter (snapshot_of x.history).slot (left (snapshot_of x.history) a 6) t)
+      → ((f : Filter) → (snapshot_of x.history).filter ≡ Some f → t f ≡ unless_refused (n (type_of f)) (left (snapshot_of x.history) a (n (type_of f))) (sewn_by a))
+      → put (head_for x) (on_filter (snapshot_of x.history).filter (left (snapshot_of x.history) a 6) t)
       ≡ unless (head_for x) a (unless_bare x.history (n (last_type x.history))) (put (head_for x) (sewn_by a))
-  asks a n t h = on_filter_is (head_for x) a x.history (snapshot_of x.history).slot n t (sewn_by a) S.good.fits h
+  asks a n t h = on_filter_is (head_for x) a x.history (snapshot_of x.history).filter n t (sewn_by a) S.good.fits h
 
   act_turn : (a : Act) → turn (head_for x) a ≡ unless (head_for x) a (act_number x a) (said a)
   unfolding turn run_sewn run_two_sewn rest_sewn
@@ -141,9 +100,13 @@ module _ (x : HeadHistory) (S : SoundHead x) where
       asks (run_two form us ys zs) (λ k. run_number (run_two_refusal k form) (count_of x.history) (length (within (within us ys) zs)))
       (run_two_by (snapshot_of x.history) form us ys zs) (λ f e. rw (snapshot_snoc, e, count_is) refl)
   act_turn rest = asks rest (λ k. 0) (rest_by (snapshot_of x.history)) (λ f e. rw (snapshot_snoc, e) refl)
-  act_turn mark = rw (length-append, ← marks_snoc x.checkpoints x.history) (on_mark (head_for x) x.history (snapshot_of x.history).slot S.good.fits)
-  act_turn (back m) = there x (back m) m S.four (back_pictured m)
-  act_turn (drop m) = there x (drop m) m S.four (drop_pictured m)
+  act_turn mark =
+      let next : next_mark (head_for x) ≡ length x.checkpoints = length-map x.checkpoints snapshot_of in
+      let left : marked_head (head_for x) ≡ head_for (grown_by x mark) =
+      ap (head_with (snapshot_of x.history)) (sym (map-append snapshot_of x.checkpoints (x.history ∷ []))) in
+      rw (left, next) at (on_mark (head_for x) x.history (snapshot_of x.history).filter S.good.fits)
+  act_turn (back m) = there x (back m) m (back_pictured m)
+  act_turn (drop m) = there x (drop m) m (λ h. drop_pictured m)
   act_turn count = rw count_is refl
 
 -- a turn by a number, told apart into its reply and its head
@@ -163,7 +126,7 @@ follows_load : (x : HeadHistory) (e : Entry) → holding (head_for x) (loaded_wi
 follows_load x e = rw snapshot_snoc refl
 
 fresh_head : empty_head ≡ head_for no_history
-unfolding empty_head table snapshot_from
+unfolding snapshot_from
 fresh_head = refl
 
 pub head_follows : HeadFollows

@@ -13,7 +13,7 @@ use Rattle.filter_core.specs.Rows.{First, none, here, later}
 use Rattle.filter_core.proofs.Rows.{exactly, by_test, Step, step_if, step_to, first_last}
 use Rattle.any_filter.specs.declared.FilterType.{FilterType}
 use Rattle.runs.specs.Rows as rows
-use Rattle.runs.specs.declared.RunForm.{RunForm}
+use Rattle.runs.specs.declared.form.RunForm.{RunForm}
 use Rattle.runs.proofs.Rows.{by_rows}
 use Rattle.heads.specs.Act.{Act, run, run_two, rest, mark, back, drop, count}
 use Rattle.heads.specs.Snapshot.{greatest_count, count_refusal, run_number}

@@ -15,17 +15,16 @@ use Rattle.any_filter.specs.Cases.{type_of, rested}
 use Rattle.any_filter.specs.declared.FilterType.{FilterType}
 use Rattle.any_filter.specs.declared.FilterType.TheVariants as type
 use Rattle.any_filter.specs.declared.Filter.{Filter}
-use Rattle.any_filter.specs.declared.Filter.TheVariants.{Dc, OnePole, Svf, Naive, Modified, Crossover}
+use Rattle.any_filter.specs.declared.Filter.TheVariants.{DcBlocker, OnePole, Svf, NaiveSvf, ModifiedSvf, CrossoverSvf}
 use Rattle.runs.specs.Form.{run_refusal, run_two_refusal}
 use Rattle.runs.specs.Run.{through}
-use Rattle.runs.specs.declared.RunForm.{RunForm}
+use Rattle.runs.specs.declared.form.RunForm.{RunForm}
 use Rattle.heads.specs.Act.{Act, run, run_two, rest, mark, back, drop, count}
 use Rattle.heads.specs.Snapshot.{greatest_count, run_number}
-use Rattle.heads.specs.History.{Event, load_event, run_event, rest_event, HeadHistory, no_history, type_with, type_from, last_type, since_from, samples_in, count_of, count_with, unless_bare, act_number, adding, grown_by, advance_by, slot_with, snapshot_with, snapshot_from, snapshot_of}
+use Rattle.heads.specs.History.{Event, load_event, run_event, rest_event, HeadHistory, no_history, type_with, type_from, last_type, since_from, samples_in, count_of, count_with, unless_bare, act_number, adding, grown_by, advance_by, filter_with, snapshot_with, snapshot_from, snapshot_of}
 use Rattle.heads.specs.Follows.{Fits, bare, held, Good, SoundHead}
 use Rattle.heads.proofs.Counts.{run_zero, count_snoc}
-use Rattle.heads.specs.declared.Slot.{Slot}
-use Rattle.heads.specs.declared.Slot.TheVariants.{Empty, Holds}
+use Rattle.std.specs.Prelude.{Option, None, Some}
 use Rattle.heads.specs.declared.Snapshot.{Snapshot}
 
 -- ---- histories joined, and with one event more
@@ -48,21 +47,20 @@ type_snoc k (j ∷ l) i = type_snoc (type_with k j) l i
 
 pub type_through : (f : Filter) (form : RunForm) (us : List Float) → type_of (through f form us) ≡ type_of f
 unfolding through
-type_through (Dc pole x y) form us = refl
-type_through (OnePole g gi state) form us = refl
-type_through (Svf g r h s t) form us = refl
-type_through (Naive f damp lp bp) form us = refl
-type_through (Modified f fq x lp bp) form us = refl
-type_through (Crossover f fq x₀ x₁ lp₀ lp₁ bp₀ bp₁) form us = refl
+type_through (DcBlocker s) form us = refl
+type_through (OnePole s) form us = refl
+type_through (Svf s) form us = refl
+type_through (NaiveSvf s) form us = refl
+type_through (ModifiedSvf s) form us = refl
+type_through (CrossoverSvf p) form us = refl
 
 pub type_rested : (f : Filter) → type_of (rested f) ≡ type_of f
-unfolding rested
-type_rested (Dc pole x y) = refl
-type_rested (OnePole g gi state) = refl
-type_rested (Svf g r h s t) = refl
-type_rested (Naive f damp lp bp) = refl
-type_rested (Modified f fq x lp bp) = refl
-type_rested (Crossover f fq x₀ x₁ lp₀ lp₁ bp₀ bp₁) = refl
+type_rested (DcBlocker s) = refl
+type_rested (OnePole s) = refl
+type_rested (Svf s) = refl
+type_rested (NaiveSvf s) = refl
+type_rested (ModifiedSvf s) = refl
+type_rested (CrossoverSvf p) = refl
 
 -- ---- a history stays good
 
@@ -70,7 +68,7 @@ good_none : Good []
 unfolding snapshot_from since_from samples_in
 good_none = record { fits = bare; small = omega arith }
 
-fits_load : (l : List Event) (e : Entry) → Fits (l ++ load_event e ∷ []) (snapshot_of (l ++ load_event e ∷ [])).slot
+fits_load : (l : List Event) (e : Entry) → Fits (l ++ load_event e ∷ []) (snapshot_of (l ++ load_event e ∷ [])).filter
 unfolding type_from
 fits_load [] e = rw snapshot_snoc (held refl)
 fits_load (j ∷ l) e = rw snapshot_snoc (held (sym (type_snoc type.DcBlocker (j ∷ l) (load_event e))))
@@ -80,15 +78,15 @@ good_load l e = record { fits = fits_load l e; small = omega (arith, count_snoc 
 
 -- an event that names no type, on a history that is not empty
 module _ (i : Event) (names-none : (k : FilterType) → type_with k i ≡ k)
-    (step : Filter → Filter) (moves : (f : Filter) → slot_with (Holds f) i ≡ Holds (step f)) (keeps : (f : Filter) → type_of (step f) ≡ type_of f) where
-  fits_same : (j : Event) (l : List Event) (σ : Slot) → Fits (j ∷ l) σ → Fits (j ∷ l ++ i ∷ []) (slot_with σ i)
-  fits_same j l (Holds f) (held e) =
+    (step : Filter → Filter) (moves : (f : Filter) → filter_with (Some f) i ≡ Some (step f)) (keeps : (f : Filter) → type_of (step f) ≡ type_of f) where
+  fits_same : (j : Event) (l : List Event) (σ : Option Filter) → Fits (j ∷ l) σ → Fits (j ∷ l ++ i ∷ []) (filter_with σ i)
+  fits_same j l (Some f) (held e) =
       rw (moves f) (held (keeps f ∙ e ∙ sym (type_snoc type.DcBlocker (j ∷ l) i ∙ names-none (last_type (j ∷ l)))))
-  fits_same j l Empty h = elim h [ ]
+  fits_same j l None h = elim h [ ]
 
-  fits_next : (l : List Event) (n : ℕ) → unless_bare l n ≡ 0 → Good l → Fits (l ++ i ∷ []) (snapshot_of (l ++ i ∷ [])).slot
+  fits_next : (l : List Event) (n : ℕ) → unless_bare l n ≡ 0 → Good l → Fits (l ++ i ∷ []) (snapshot_of (l ++ i ∷ [])).filter
   fits_next [] n q g = absurd (omega arith)
-  fits_next (j ∷ l) n q g = rw snapshot_snoc (fits_same j l (snapshot_of (j ∷ l)).slot g.fits)
+  fits_next (j ∷ l) n q g = rw snapshot_snoc (fits_same j l (snapshot_of (j ∷ l)).filter g.fits)
 
   good_next : (l : List Event) (n : ℕ) → unless_bare l n ≡ 0 → count_with (count_of l) i ≤ greatest_count → Good l → Good (l ++ i ∷ [])
   good_next l n q s g = record { fits = fits_next l n q g; small = rw count_snoc s }

@@ -1,6 +1,6 @@
 -- What is asked of a head, with its buffers as they stood when lent, and what a caller sees of it.
 use Rattle.std.specs.Prelude.{ℕ, List, Float}
-use Rattle.runs.specs.declared.RunForm.{RunForm}
+use Rattle.runs.specs.declared.form.RunForm.{RunForm}
 
 -- a run has its input and its outputs
 pub data Act : Type 0 where

@@ -1,30 +1,27 @@
 -- A head is the picture of its history, and each call keeps that: what demand 3 says of one head and one call.
-use Rattle.std.specs.Prelude.{ℕ, ◌≤◌, ◌≡◌, List, [], ◌∷◌, length, get_or}
+use Rattle.std.specs.Prelude.{ℕ, ◌≤◌, ◌≡◌, List, [], ◌∷◌, length, get_or, map, Option, None, Some}
 use Rattle.sheets.specs.declared.entry.Entry.{Entry}
 use Rattle.any_filter.specs.Cases.{type_of}
 use Rattle.any_filter.specs.declared.Filter.{Filter}
-use Rattle.lists.specs.Table.{table}
 use Rattle.heads.specs.Act.{Act}
 use Rattle.heads.specs.Snapshot.{loaded_with, greatest_count}
-use Rattle.heads.specs.Head.{empty_head, holding, turn}
+use Rattle.heads.specs.Head.{head_with, empty_head, holding, turn}
 use Rattle.heads.specs.History.{Event, load_event, HeadHistory, no_history, last_type, count_of, adding, advance_by, snapshot_of, act_reply}
-use Rattle.heads.specs.declared.Slot.{Slot}
-use Rattle.heads.specs.declared.Slot.TheVariants.{Empty, Holds}
 use Rattle.heads.specs.declared.Head.{Head}
 
 -- the head of a history: what the history leads to, and what each checkpoint does
 abbrev pub head_for : HeadHistory → Head
 head_for x =
-    record { now = snapshot_of x.history; marks = table 4 (λ i. snapshot_of (get_or x.checkpoints i [])); marked = length x.checkpoints }
+    head_with (snapshot_of x.history) (map snapshot_of x.checkpoints)
 
--- a slot that is empty when the history is, and else holds a filter of the history's type
-pub data Fits : List Event → Slot → Type 0 where
-  bare : Fits [] Empty
-  held : {i : Event} {l : List Event} {f : Filter} → type_of f ≡ last_type (i ∷ l) → Fits (i ∷ l) (Holds f)
+-- no filter when the history is empty, and else one of the history's type
+pub data Fits : List Event → Option Filter → Type 0 where
+  bare : Fits [] None
+  held : {i : Event} {l : List Event} {f : Filter} → type_of f ≡ last_type (i ∷ l) → Fits (i ∷ l) (Some f)
 
--- a history of calls: its slot fits, and its count is one of 32 bits (02 i)
+-- a history of calls: its filter fits, and its count is one of 32 bits (02 i)
 pub record Good (l : List Event) : Type 0 where
-  pub fits : Fits l (snapshot_of l).slot
+  pub fits : Fits l (snapshot_of l).filter
   pub small : count_of l ≤ greatest_count
 
 -- what holds of every history that calls make

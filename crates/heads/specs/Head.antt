@@ -1,21 +1,24 @@
 -- What each call does to a head.
-use Rattle.std.specs.Prelude.{ℕ, ◌+◌, Bool, cond, List, leb, ltb, get_or, set, replicate}
-use Rattle.lists.specs.Table.{table}
+use Rattle.std.specs.Prelude.{ℕ, ◌+◌, cond, List, [], ◌∷◌, ◌++◌, leb, ltb, length, get_or, take, Option, None, Some, Result, unwrap_or}
+use Rattle.std.specs.Result.{result_unwrap_or}
+use Rattle.filter_core.specs.Refusal.{number_in}
+use Rattle.filter_core.specs.declared.refusal.Refusal.{Refusal}
+use Rattle.any_filter.specs.declared.Filter.{Filter}
 use Rattle.heads.specs.Act.{Act, run, run_two, rest, mark, back, drop, count, HeadReply, answered, marked, counted, refused_act}
 use Rattle.heads.specs.Snapshot.{empty_snapshot, Sewn, run_sewn, run_two_sewn, rest_sewn}
-use Rattle.heads.specs.declared.Slot.{Slot}
-use Rattle.heads.specs.declared.Slot.TheVariants.{Empty, Holds}
 use Rattle.heads.specs.declared.Snapshot.{Snapshot}
 use Rattle.heads.specs.declared.Head.{Head}
-use Rattle.heads.specs.declared.HeadAnswer.{HeadAnswer}
-use Rattle.heads.specs.declared.HeadMarked.{HeadMarked}
 
-unfoldable pub empty_head : Head
-empty_head = record { now = empty_snapshot; marks = replicate 4 empty_snapshot; marked = 0 }
+-- the head that holds a snapshot, with these marks
+abbrev pub head_with : Snapshot → List Snapshot → Head
+head_with s marks = record { now = s; marks = record { items = marks } }
+
+abbrev pub empty_head : Head
+empty_head = head_with empty_snapshot []
 
 -- the head with something else in it: its marks stay
 abbrev pub holding : Head → Snapshot → Head
-holding x s = record { now = s; marks = x.marks; marked = x.marked }
+holding x s = record { now = s; marks = x.marks }
 
 -- ---- each call: what the caller sees, and the head that it leaves
 
@@ -39,59 +42,46 @@ abbrev pub last_mark : ℕ
 last_mark = 3
 
 abbrev pub marked_head : Head → Head
-marked_head x = record { now = x.now; marks = set x.marks x.marked x.now; marked = x.marked + 1 }
+marked_head x = head_with x.now (x.marks.items ++ x.now ∷ [])
 
 -- the number of the mark that a head gets next
 abbrev pub next_mark : Head → ℕ
-next_mark x = x.marked
+next_mark x = length x.marks.items
 
 -- an empty head has nothing to mark
-abbrev pub mark_by : Head → Slot → Turned
-mark_by x Empty = refuse_turn x mark 6
-mark_by x (Holds f) = cond (ltb last_mark x.marked) (refuse_turn x mark 8) (accept_turn (marked 0 (next_mark x)) (marked_head x))
-
-abbrev pub only_if : Bool → Snapshot → Snapshot
-only_if b s = cond b s empty_snapshot
-
--- the marks below k
-unfoldable pub marks_below : ℕ → List Snapshot → List Snapshot
-marks_below k marks = table 4 (λ i. only_if (ltb i k) (get_or marks i empty_snapshot))
+abbrev pub mark_by : Head → Option Filter → Turned
+mark_by x None = refuse_turn x mark 6
+mark_by x (Some f) = cond (ltb last_mark (next_mark x)) (refuse_turn x mark 8) (accept_turn (marked 0 (next_mark x)) (marked_head x))
 
 -- what back m restores
 abbrev pub restored : Head → ℕ → Snapshot
-restored x m = get_or x.marks m empty_snapshot
+restored x m = get_or x.marks.items m empty_snapshot
 
--- the head after back m and after drop m
+-- the head after back m and after drop m: the marks above are dropped
 
 abbrev pub back_head : Head → ℕ → Head
-back_head x m = record { now = restored x m; marks = marks_below (m + 1) x.marks; marked = m + 1 }
+back_head x m = head_with (restored x m) (take (m + 1) x.marks.items)
 
 abbrev pub drop_head : Head → ℕ → Head
-drop_head x m = record { now = x.now; marks = marks_below m x.marks; marked = m }
+drop_head x m = head_with x.now (take m x.marks.items)
 
--- no head has a mark above 3, so the second test refuses none that stands
 abbrev pub at_mark : Head → Act → ℕ → Turned → Turned
-at_mark x a m t = cond (leb x.marked m) (refuse_turn x a 7) (cond (ltb 3 m) (refuse_turn x a 7) t)
+at_mark x a m t = cond (leb (next_mark x) m) (refuse_turn x a 7) t
 
 unfoldable pub turn : Head → Act → Turned
 turn x (run form us ys) = put x (run_sewn x.now form us ys)
 turn x (run_two form us ys zs) = put x (run_two_sewn x.now form us ys zs)
 turn x rest = put x (rest_sewn x.now)
-turn x mark = mark_by x x.now.slot
+turn x mark = mark_by x x.now.filter
 turn x (back m) = at_mark x (back m) m (accept_turn (answered 0) (back_head x m))
 turn x (drop m) = at_mark x (drop m) m (accept_turn (answered 0) (drop_head x m))
 turn x count = accept_turn (counted 0 x.now.count) x
 
--- ---- the answers of the code
+-- ---- the answers of the code, and the head that it leaves
 
-abbrev pub head_numbered : ℕ → Head → HeadAnswer
-head_numbered n x = record { number = n; head = x }
+abbrev pub turned_plainly : {A : Type 0} → Result A Refusal → Head → Turned
+turned_plainly r x = record { reply = answered (number_in r); head = x }
 
-abbrev pub head_unmarked : ℕ → Head → HeadMarked
-head_unmarked n x = record { number = n; mark = 0; head = x }
-
-abbrev pub turned_plainly : HeadAnswer → Turned
-turned_plainly a = record { reply = answered a.number; head = a.head }
-
-abbrev pub turned_with_mark : HeadMarked → Turned
-turned_with_mark a = record { reply = marked a.number a.mark; head = a.head }
+-- the number of the mark is 0 where the call is refused
+abbrev pub turned_with_mark : Result ℕ Refusal → Head → Turned
+turned_with_mark r x = record { reply = marked (number_in r) (result_unwrap_or r 0); head = x }

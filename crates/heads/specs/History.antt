@@ -1,19 +1,18 @@
 -- What document 01 says of a head under "Kept list", read from the calls alone: the head's history, the calls' numbers and replies.
 -- Nothing here is read from what a head holds.
-use Rattle.std.specs.Prelude.{ℕ, ◌+◌, cond, List, [], ◌∷◌, ◌++◌, leb, ltb, eqb, length, get_or, take, Float}
+use Rattle.std.specs.Prelude.{ℕ, ◌+◌, cond, List, [], ◌∷◌, ◌++◌, leb, ltb, eqb, length, get_or, take, Float, Option, None, Some}
 use Rattle.filter_core.specs.Buffer.{within}
 use Rattle.sheets.specs.declared.entry.Entry.{Entry}
 use Rattle.any_filter.specs.Cases.{type_of, rested}
+use Rattle.any_filter.specs.declared.Filter.{Filter}
 use Rattle.any_filter.specs.declared.FilterType.{FilterType}
 use Rattle.any_filter.specs.declared.FilterType.TheVariants as type
 use Rattle.runs.specs.Form.{run_refusal, run_two_refusal}
 use Rattle.runs.specs.Run.{through, first_output, second_output}
-use Rattle.runs.specs.declared.RunForm.{RunForm}
+use Rattle.runs.specs.declared.form.RunForm.{RunForm}
 use Rattle.loads.specs.Load.{filter_of}
 use Rattle.heads.specs.Act.{Act, run, run_two, rest, mark, back, drop, count, HeadReply, answered, marked, ran, ran_two, counted, refused_act}
 use Rattle.heads.specs.Snapshot.{run_number}
-use Rattle.heads.specs.declared.Slot.{Slot}
-use Rattle.heads.specs.declared.Slot.TheVariants.{Empty, Holds}
 use Rattle.heads.specs.declared.Snapshot.{Snapshot}
 
 -- an item of a kept list: a load with the entry's kind byte and words, a run with its form and the samples within the shortest length
@@ -115,12 +114,12 @@ advance_by x a = cond (eqb (act_number x a) 0) (grown_by x a) x
 
 -- ---- what a history leads to: its events in turn, from an empty head
 
-abbrev pub slot_with : Slot → Event → Slot
-slot_with s (load_event e) = Holds (filter_of e)
-slot_with Empty (run_event form us) = Empty
-slot_with (Holds f) (run_event form us) = Holds (through f form us)
-slot_with Empty rest_event = Empty
-slot_with (Holds f) rest_event = Holds (rested f)
+abbrev pub filter_with : Option Filter → Event → Option Filter
+filter_with s (load_event e) = Some (filter_of e)
+filter_with None (run_event form us) = None
+filter_with (Some f) (run_event form us) = Some (through f form us)
+filter_with None rest_event = None
+filter_with (Some f) rest_event = Some (rested f)
 
 -- the count: a load begins anew, a run adds its samples (02 i)
 abbrev pub count_with : ℕ → Event → ℕ
@@ -129,32 +128,32 @@ count_with n (run_event form us) = n + length us
 count_with n rest_event = n
 
 abbrev pub snapshot_with : Snapshot → Event → Snapshot
-snapshot_with s i = record { slot = slot_with s.slot i; count = count_with s.count i }
+snapshot_with s i = record { filter = filter_with s.filter i; count = count_with s.count i }
 
 unfoldable pub snapshot_from : Snapshot → List Event → Snapshot
 snapshot_from s [] = s
 snapshot_from s (i ∷ is) = snapshot_from (snapshot_with s i) is
 
 abbrev pub snapshot_of : List Event → Snapshot
-snapshot_of l = snapshot_from (record { slot = Empty; count = 0 }) l
+snapshot_of l = snapshot_from (record { filter = None; count = 0 }) l
 
 -- ---- what each call replies
 
 -- a run's outputs, begun from what the history before it leads to
 
-abbrev pub first_from : Slot → RunForm → List Float → List Float → List Float
-first_from Empty form us ys = ys
-first_from (Holds f) form us ys = first_output f form us ys
+abbrev pub first_from : Option Filter → RunForm → List Float → List Float → List Float
+first_from None form us ys = ys
+first_from (Some f) form us ys = first_output f form us ys
 
-abbrev pub second_from : Slot → RunForm → List Float → List Float → List Float
-second_from Empty form us zs = zs
-second_from (Holds f) form us zs = second_output f form us zs
+abbrev pub second_from : Option Filter → RunForm → List Float → List Float → List Float
+second_from None form us zs = zs
+second_from (Some f) form us zs = second_output f form us zs
 
 abbrev pub accepted_act : HeadHistory → Act → HeadReply
-accepted_act x (run form us ys) = ran 0 (first_from (snapshot_of x.history).slot form (within us ys) ys)
+accepted_act x (run form us ys) = ran 0 (first_from (snapshot_of x.history).filter form (within us ys) ys)
 accepted_act x (run_two form us ys zs) =
     let s = within (within us ys) zs in
-    ran_two 0 (first_from (snapshot_of x.history).slot form s ys) (second_from (snapshot_of x.history).slot form s zs)
+    ran_two 0 (first_from (snapshot_of x.history).filter form s ys) (second_from (snapshot_of x.history).filter form s zs)
 accepted_act x rest = answered 0
 accepted_act x mark = marked 0 (length x.checkpoints)
 accepted_act x (back m) = answered 0

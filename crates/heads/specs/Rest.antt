@@ -18,4 +18,4 @@ last_load l = last_load_from [] l
 
 -- whatever came before the rest, and whatever comes after it. With nothing after it, that is the filter of the last load
 abbrev pub RestIsLoad : Type 0
-RestIsLoad = (before after : List Event) → (snapshot_of (before ++ rest_event ∷ after)).slot ≡ (snapshot_of (last_load before ++ after)).slot
+RestIsLoad = (before after : List Event) → (snapshot_of (before ++ rest_event ∷ after)).filter ≡ (snapshot_of (last_load before ++ after)).filter

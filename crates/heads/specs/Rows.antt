@@ -4,7 +4,7 @@ use Rattle.std.specs.Prelude.{ℕ, ◌+◌, ◌≤◌, ◌<◌, ◌≡◌, List,
 use Rattle.filter_core.specs.Buffer.{within}
 use Rattle.filter_core.specs.Rows.{Exactly}
 use Rattle.runs.specs.Rows.{Has, HasTwo, StepOfZero}
-use Rattle.runs.specs.declared.RunForm.{RunForm}
+use Rattle.runs.specs.declared.form.RunForm.{RunForm}
 use Rattle.heads.specs.Act.{Act, run, run_two, rest, mark, back, drop, count}
 use Rattle.heads.specs.History.{HeadHistory, last_type, count_of, act_number}
 use Rattle.heads.specs.Follows.{SoundHead}

@@ -1,26 +1,24 @@
 -- What a run, a rest and a load do to what a head holds.
-use Rattle.std.specs.Prelude.{ℕ, ◌+◌, cond, List, ltb, length, Float}
+use Rattle.std.specs.Prelude.{ℕ, ◌+◌, cond, List, ltb, length, Float, Option, None, Some, Result}
 use Rattle.filter_core.specs.Buffer.{within}
-use Rattle.filter_core.specs.Refusal.{unless_refused}
+use Rattle.filter_core.specs.Refusal.{number_in, unless_refused}
 use Rattle.filter_core.specs.Rows.{◌then◌}
+use Rattle.filter_core.specs.declared.refusal.Refusal.{Refusal}
 use Rattle.sheets.specs.declared.entry.Entry.{Entry}
 use Rattle.any_filter.specs.Cases.{type_of, rested}
 use Rattle.any_filter.specs.declared.Filter.{Filter}
 use Rattle.runs.specs.Form.{run_refusal, run_two_refusal}
 use Rattle.runs.specs.Run.{through, first_output, second_output}
-use Rattle.runs.specs.declared.RunForm.{RunForm}
+use Rattle.runs.specs.declared.form.RunForm.{RunForm}
 use Rattle.loads.specs.Load.{filter_of}
 use Rattle.heads.specs.Act.{Act, run, run_two, rest, HeadReply, answered, ran, ran_two, refused_act}
-use Rattle.heads.specs.declared.Slot.{Slot}
-use Rattle.heads.specs.declared.Slot.TheVariants.{Empty, Holds}
 use Rattle.heads.specs.declared.Snapshot.{Snapshot}
-use Rattle.heads.specs.declared.SnapshotAnswer.{SnapshotAnswer}
 
 abbrev pub empty_snapshot : Snapshot
-empty_snapshot = record { slot = Empty; count = 0 }
+empty_snapshot = record { filter = None; count = 0 }
 
 abbrev pub holds : Filter → ℕ → Snapshot
-holds f n = record { slot = Holds f; count = n }
+holds f n = record { filter = Some f; count = n }
 
 abbrev pub loaded_with : Entry → Snapshot
 loaded_with e = holds (filter_of e) 0
@@ -51,9 +49,9 @@ abbrev pub left : Snapshot → Act → ℕ → Sewn
 left s a n = record { reply = refused_act n a; now = s }
 
 -- by the filter that is held; where none is, the call is refused
-abbrev pub on_filter : Slot → Sewn → (Filter → Sewn) → Sewn
-on_filter Empty bare t = bare
-on_filter (Holds f) bare t = t f
+abbrev pub on_filter : Option Filter → Sewn → (Filter → Sewn) → Sewn
+on_filter None bare t = bare
+on_filter (Some f) bare t = t f
 
 abbrev pub run_by : Snapshot → RunForm → List Float → List Float → Filter → Sewn
 run_by s form us ys f =
@@ -63,7 +61,7 @@ run_by s form us ys f =
     (record { reply = ran 0 (first_output f form xs ys); now = holds (through f form xs) (s.count + length xs) })
 
 unfoldable pub run_sewn : Snapshot → RunForm → List Float → List Float → Sewn
-run_sewn s form us ys = on_filter s.slot (left s (run form us ys) 6) (run_by s form us ys)
+run_sewn s form us ys = on_filter s.filter (left s (run form us ys) 6) (run_by s form us ys)
 
 abbrev pub run_two_by : Snapshot → RunForm → List Float → List Float → List Float → Filter → Sewn
 run_two_by s form us ys zs f =
@@ -73,24 +71,21 @@ run_two_by s form us ys zs f =
     (record { reply = ran_two 0 (first_output f form xs ys) (second_output f form xs zs); now = holds (through f form xs) (s.count + length xs) })
 
 unfoldable pub run_two_sewn : Snapshot → RunForm → List Float → List Float → List Float → Sewn
-run_two_sewn s form us ys zs = on_filter s.slot (left s (run_two form us ys zs) 6) (run_two_by s form us ys zs)
+run_two_sewn s form us ys zs = on_filter s.filter (left s (run_two form us ys zs) 6) (run_two_by s form us ys zs)
 
 abbrev pub rest_by : Snapshot → Filter → Sewn
 rest_by s f = record { reply = answered 0; now = holds (rested f) s.count }
 
 unfoldable pub rest_sewn : Snapshot → Sewn
-rest_sewn s = on_filter s.slot (left s rest 6) (rest_by s)
+rest_sewn s = on_filter s.filter (left s rest 6) (rest_by s)
 
--- ---- the answers of the code, with the lent outputs as they are left
+-- ---- the answers of the code, what the head holds then, and the lent outputs as they are left
 
-abbrev pub sewn : ℕ → Snapshot → SnapshotAnswer
-sewn n s = record { number = n; now = s }
+abbrev pub sewn_plainly : {A : Type 0} → Result A Refusal → Snapshot → Sewn
+sewn_plainly r s = record { reply = answered (number_in r); now = s }
 
-abbrev pub sewn_plainly : SnapshotAnswer → Sewn
-sewn_plainly a = record { reply = answered a.number; now = a.now }
+abbrev pub sewn_with : {A : Type 0} → Result A Refusal → Snapshot → List Float → Sewn
+sewn_with r s ys = record { reply = ran (number_in r) ys; now = s }
 
-abbrev pub sewn_with : SnapshotAnswer → List Float → Sewn
-sewn_with a ys = record { reply = ran a.number ys; now = a.now }
-
-abbrev pub sewn_with_two : SnapshotAnswer → List Float → List Float → Sewn
-sewn_with_two a ys zs = record { reply = ran_two a.number ys zs; now = a.now }
+abbrev pub sewn_with_two : {A : Type 0} → Result A Refusal → Snapshot → List Float → List Float → Sewn
+sewn_with_two r s ys zs = record { reply = ran_two (number_in r) ys zs; now = s }

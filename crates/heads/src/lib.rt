@@ -1,102 +1,36 @@
 // A head: empty or with one filter and a count of the samples sewn since its load, and up to four marks to go back to.
-// Each call takes the head by value and hands it back in its answer. A refused call hands it back as it was.
+// A call that is refused leaves the head as it was.
 #![tactic(auto)]
 
 mod count;
-mod marks;
 
 ghost use Rattle.std.specs.Prelude.{◌≡◌};
 ghost use Rattle.heads.specs.Act.{mark, back, drop};
-ghost use Rattle.heads.specs.Snapshot.{holds, loaded_with, run_sewn, run_two_sewn, rest_sewn, sewn, sewn_plainly, sewn_with, sewn_with_two};
-ghost use Rattle.heads.specs.Head.{empty_head, holding, turn, head_numbered, head_unmarked, turned_plainly, turned_with_mark};
+ghost use Rattle.heads.specs.Snapshot.{loaded_with, run_sewn, run_two_sewn, rest_sewn, sewn_plainly, sewn_with, sewn_with_two};
+ghost use Rattle.heads.specs.Head.{empty_head, turn, turned_plainly, turned_with_mark};
 ghost use Rattle.heads.specs.Follows.{HeadFollows};
 ghost use Rattle.heads.specs.Counts.{CountsAreSums};
 ghost use Rattle.heads.specs.Rows.{HeadByRows};
 ghost use Rattle.heads.specs.Rest.{RestIsLoad};
 
 use any_filter::Filter;
-use count::{raised, run_number};
-use marks::{empty_snapshot, marks_below};
+use arrayvec::ArrayVec;
+use count::raised;
+use filter_core::Refusal;
 use runs::RunForm;
 use sheets::Entry;
 
-#[derive(Clone, Copy)]
-pub enum Slot {
-    Empty,
-    Holds(Filter),
-}
-
 // What a mark keeps of a head, and what the head itself holds. The count is that of the samples sewn since the load, 0 while empty.
-#[derive(Clone, Copy)]
+#[derive(Clone, Copy, Default)]
 pub struct Snapshot {
-    pub slot: Slot,
+    pub filter: Option<Filter>,
     pub count: u32,
 }
 
-// The places of `marks` from `marked` on are empty, so that a head is one value.
-#[derive(Clone, Copy)]
+#[derive(Drop)]
 pub struct Head {
     pub now: Snapshot,
-    pub marks: [Snapshot; 4],
-    pub marked: usize,
-}
-
-// The number is 0, or that of the refusal.
-#[derive(Clone, Copy)]
-pub struct SnapshotAnswer {
-    pub number: u8,
-    pub now: Snapshot,
-}
-
-#[derive(Clone, Copy)]
-pub struct HeadAnswer {
-    pub number: u8,
-    pub head: Head,
-}
-
-// The number of the mark, which is 0 where the call is refused.
-#[derive(Clone, Copy)]
-pub struct HeadMarked {
-    pub number: u8,
-    pub mark: usize,
-    pub head: Head,
-}
-
-fn holds(filter: Filter, count: u32) -> Snapshot
-    ensures { result ≡ holds filter count }
-{
-    Snapshot {
-        slot: Slot::Holds(filter),
-        count: count,
-    }
-}
-
-fn snapshot_answer(number: u8, now: Snapshot) -> SnapshotAnswer
-    ensures { result ≡ sewn number now }
-{
-    SnapshotAnswer {
-        number: number,
-        now: now,
-    }
-}
-
-fn head_answer(number: u8, head: Head) -> HeadAnswer
-    ensures { result ≡ head_numbered number head }
-{
-    HeadAnswer {
-        number: number,
-        head: head,
-    }
-}
-
-fn no_mark(number: u8, head: Head) -> HeadMarked
-    ensures { result ≡ head_unmarked number head }
-{
-    HeadMarked {
-        number: number,
-        mark: 0,
-        head: head,
-    }
+    pub marks: ArrayVec<Snapshot, 4>,
 }
 
 // The calls that change what a head holds and leave its marks.
@@ -105,63 +39,58 @@ impl Snapshot {
     pub fn loaded(entry: Entry) -> Snapshot
         ensures { result ≡ loaded_with entry }
     {
-        holds(loads::filter_of(entry), 0)
+        Snapshot {
+            filter: Some(loads::filter_of(entry)),
+            count: 0,
+        }
     }
 
     // Runs a form with one output. All samples within the shortest length count.
-    pub fn run(self, form: RunForm, input: &[f32], output: &mut [f32]) -> SnapshotAnswer
-        ensures { sewn_with result output.new ≡ run_sewn self form input.now output.old }
+    #[tactic(auto, unfolding(crate::specs::Snapshot::run_sewn))]
+    pub fn run(&mut self, form: RunForm, input: &[f32], output: &mut [f32]) -> Result<(), Refusal>
+        ensures { sewn_with result self.new output.new ≡ run_sewn self.old form input.now output.old }
     {
-        let slot = self.slot;
-        let Slot::Holds(filter) = slot else {
-            return snapshot_answer(6, self);
+        let Some(filter) = &mut self.filter else {
+            return Err(Refusal::Bare);
         };
-        let count = self.count;
-        let n = filter_core::shortest(input.len(), output.len());
-        let number = run_number(runs::run_refusal(filter, form), count, n);
-        if number != 0 {
-            return snapshot_answer(number, self);
-        }
-        let after = raised(count, n);
-        snapshot_answer(0, holds(runs::run(filter, form, input, output), after))
+        runs::check_run(filter, form)?;
+        let count = raised(self.count, input.len().min(output.len()))?;
+        runs::run(filter, form, input, output)?;
+        self.count = count;
+        Ok(())
     }
 
     // Runs a form with two outputs. A sample counts once.
+    #[tactic(auto, unfolding(crate::specs::Snapshot::run_two_sewn))]
     pub fn run_two(
-        self,
+        &mut self,
         form: RunForm,
         input: &[f32],
         first: &mut [f32],
         second: &mut [f32],
-    ) -> SnapshotAnswer
-        ensures { sewn_with_two result first.new second.new ≡ run_two_sewn self form input.now first.old second.old }
+    ) -> Result<(), Refusal>
+        ensures { sewn_with_two result self.new first.new second.new ≡ run_two_sewn self.old form input.now first.old second.old }
     {
-        let slot = self.slot;
-        let Slot::Holds(filter) = slot else {
-            return snapshot_answer(6, self);
+        let Some(filter) = &mut self.filter else {
+            return Err(Refusal::Bare);
         };
-        let count = self.count;
-        let n = filter_core::shortest_of_three(input.len(), first.len(), second.len());
-        let number = run_number(runs::run_two_refusal(filter, form), count, n);
-        if number != 0 {
-            return snapshot_answer(number, self);
-        }
-        let after = raised(count, n);
-        snapshot_answer(
-            0,
-            holds(runs::run_two(filter, form, input, first, second), after),
-        )
+        runs::check_run_two(filter, form)?;
+        let count = raised(self.count, input.len().min(first.len().min(second.len())))?;
+        runs::run_two(filter, form, input, first, second)?;
+        self.count = count;
+        Ok(())
     }
 
     // Clears what the filter retains of past samples. The count stays.
-    pub fn rest(self) -> SnapshotAnswer
-        ensures { sewn_plainly result ≡ rest_sewn self }
+    #[tactic(auto, unfolding(crate::specs::Snapshot::rest_sewn))]
+    pub fn rest(&mut self) -> Result<(), Refusal>
+        ensures { sewn_plainly result self.new ≡ rest_sewn self.old }
     {
-        let slot = self.slot;
-        let Slot::Holds(filter) = slot else {
-            return snapshot_answer(6, self);
+        let Some(filter) = &mut self.filter else {
+            return Err(Refusal::Bare);
         };
-        snapshot_answer(0, holds(filter.rest(), self.count))
+        filter.rest();
+        Ok(())
     }
 }
 
@@ -169,94 +98,58 @@ impl Head {
     pub fn empty() -> Head
         ensures { result ≡ empty_head }
     {
-        let s = empty_snapshot();
         Head {
-            now: s,
-            marks: [s; 4],
-            marked: 0,
+            now: Snapshot {
+                filter: None,
+                count: 0,
+            },
+            marks: ArrayVec::new(),
         }
-    }
-
-    // The head with something else in it. Its marks stay.
-    pub fn holding(mut self, now: Snapshot) -> Head
-        ensures { result ≡ holding self now }
-    {
-        self.now = now;
-        self
     }
 
     // Records what the head holds, and answers the mark's number.
-    pub fn mark(self) -> HeadMarked
-        ensures { turned_with_mark result ≡ turn self mark }
+    #[tactic(auto, unfolding(crate::specs::Head::turn))]
+    pub fn mark(&mut self) -> Result<usize, Refusal>
+        ensures { turned_with_mark result self.new ≡ turn self.old mark }
     {
-        let now = self.now;
-        let slot = now.slot;
-        let Slot::Holds(_) = slot else {
-            return no_mark(6, self);
-        };
-        let at = self.marked;
-        if 3 < at {
-            return no_mark(8, self);
+        if self.now.filter.is_none() {
+            return Err(Refusal::Bare);
         }
-        let mut marks = self.marks;
-        marks[at] = now;
-        HeadMarked {
-            number: 0,
-            mark: at,
-            head: Head {
-                now: now,
-                marks: marks,
-                marked: at + 1,
-            },
+        let m = self.marks.len();
+        match self.marks.try_push(self.now) {
+            Ok(()) => Ok(m),
+            Err(_) => Err(Refusal::Full),
         }
     }
 
     // Restores mark m, keeps it, and drops those above.
-    pub fn back(self, m: usize) -> HeadAnswer
-        ensures { turned_plainly result ≡ turn self (back m) }
+    #[tactic(auto, unfolding(crate::specs::Head::turn))]
+    pub fn back(&mut self, m: usize) -> Result<(), Refusal>
+        ensures { turned_plainly result self.new ≡ turn self.old (back m) }
     {
-        if self.marked <= m {
-            return head_answer(7, self);
+        if self.marks.len() <= m {
+            return Err(Refusal::Mark);
         }
-        if 3 < m {
-            return head_answer(7, self);
-        }
-        let marks = self.marks;
-        let old = marks[m];
-        head_answer(
-            0,
-            Head {
-                now: old,
-                marks: marks_below(m + 1, marks),
-                marked: m + 1,
-            },
-        )
+        self.now = self.marks[m];
+        self.marks.truncate(m + 1);
+        Ok(())
     }
 
     // Drops mark m and those above. What the head holds stays.
-    pub fn drop(self, m: usize) -> HeadAnswer
-        ensures { turned_plainly result ≡ turn self (drop m) }
+    #[tactic(auto, unfolding(crate::specs::Head::turn))]
+    pub fn drop(&mut self, m: usize) -> Result<(), Refusal>
+        ensures { turned_plainly result self.new ≡ turn self.old (drop m) }
     {
-        if self.marked <= m {
-            return head_answer(7, self);
+        if self.marks.len() <= m {
+            return Err(Refusal::Mark);
         }
-        if 3 < m {
-            return head_answer(7, self);
-        }
-        let now = self.now;
-        let marks = self.marks;
-        head_answer(
-            0,
-            Head {
-                now: now,
-                marks: marks_below(m, marks),
-                marked: m,
-            },
-        )
+        self.marks.truncate(m);
+        Ok(())
     }
 }
 
 // Under every call a head is the picture of its history.
+#[tactic(auto, using(crate::proofs::Follows::head_follows))]
 pub fn head_follows()
     ensures { HeadFollows }
 {}
@@ -267,11 +160,13 @@ pub fn head_by_rows()
 {}
 
 // Every history's count is the sum of its samples since the last load.
+#[tactic(auto, using(crate::proofs::Counts::count_is))]
 pub fn counts_are_sums()
     ensures { CountsAreSums }
 {}
 
 // From a rest on, a head's filter is what it would be if the head had just been loaded.
+#[tactic(auto, using(crate::proofs::Rest::rest_is_load))]
 pub fn rest_is_load()
     ensures { RestIsLoad }
 {}
