@@ -1,9 +1,9 @@
-use Rattle.std.proofs.Common.{refl, lit<}
+use Rattle.std.proofs.Common.{rules, refl, lit<}
 use Rattle.library.proofs.Tables.{table_none, table_more, table_room}
 use Rattle.library.proofs.library_of.Goals as goal
 
 pub loop-e-init : goal.loop-e-init
-loop-e-init c = rw table_none (c.edition_in.ensures, c.new.ensures)
+loop-e-init c = rw table_none (search rules)
 
 pub push-requires : goal.push-requires
 push-requires c = (lit< tt, table_room _ c.loop-e.invariant.1 c.loop-e-test.true c.requires.0.most)
