@@ -1,6 +1,4 @@
-pub mod Zeros
-pub mod Readings
+pub mod Tables
 pub mod Rows
 pub mod Writings
-pub mod Entries
 pub mod RoundTrip

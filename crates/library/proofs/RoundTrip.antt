@@ -1,20 +1,26 @@
 -- A sheet and its library come back from each other. Assumes nothing.
 use Prim.Native.Nat.{ℕ, ◌+◌, ◌*◌, ◌≤◌, ◌<◌}
 use mathlib.Core.Path.{◌≡◌, refl, sym, ap, ◌∙◌}
-use mathlib.Core.List.{List, [], ◌∷◌, ◌++◌}
+use mathlib.Core.List.{List, [], ◌∷◌, ◌++◌, map}
 use native.Mathlib.Omega.{arith}
 use borrow.Author.Tests.{ne_eqb}
-use lib.ListN.{length, get_or, take, drop, length-take, length-drop, take-append-drop}
-use lib.Seq.{take_all, take-length, take-take, take-append_seam, drop-drop, get_or-take, get_or-drop}
-use Rattle.lists.proofs.Over.{over_none, over_all, over_front, part_of_first}
-use Rattle.sheets.specs.Sheet.{entries_of, edition_in, Fits, Sized, kind_at, setting_at, entry_in}
+use lib.ListN.{length, get_or, take, drop, length-drop, take-append-drop}
+use lib.Seq.{take_all, take-append_seam, drop-drop, get_or-drop}
+use Rattle.std.specs.Prelude.{Some, slice_get}
+use Rattle.std.proofs.lemmas.Option.{slice_get-get_or}
+use Rattle.std.specs.List.{flat_map}
+use Rattle.lists.specs.Table.{table}
+use Rattle.lists.proofs.Tables.{length_table, get_or_table, table_ext}
+use Rattle.lists.proofs.Over.{over_all}
+use Rattle.sheets.specs.Sheet.{entries_of, edition_in, Fits, Sized, kind_at, entry_in}
 use Rattle.sheets.specs.Rows.{Sheet}
 use Rattle.sheets.specs.Edition.{edition_byte}
 use Rattle.sheets.proofs.Checks.{edition_back}
 use Rattle.sheets.proofs.Rows.{sheet_check}
-use Rattle.library.specs.Library.{zero_bytes, none, library_of, read_of, bytes_of, setting_in, entry_at, write_refusal, written_of}
-use Rattle.library.specs.RoundTrip.{Rewritten, RefusedWrite, OneSheet, SameEntries}
-use Rattle.library.proofs.Zeros.{length_zero_bytes}
+use Rattle.library.specs.Library.{count, none, stored_in, library_of, bytes_of, entry_from, entry_at, write_number}
+use Rattle.library.specs.RoundTrip.{Rewritten, ReadWrite, Reread, written_sheet, WriteRead, RefusedWrite, OneSheet, SameEntries}
+use Rattle.library.specs.declared.StoredEntry.{StoredEntry}
+use Rattle.library.proofs.Tables.{table_none, map_table, ones, twelves}
 use Rattle.library.proofs.Rows.{write_fits}
 
 -- ---- lists
@@ -26,24 +32,24 @@ two_first (x ∷ (y ∷ s)) h = refl
 
 -- ---- a sheet's parts in its library
 
+pub count_in : (s : List ℕ) → count (library_of s) ≡ entries_of s
+count_in s = length_table (entries_of s) (stored_in s)
+
 module _ (s : List ℕ) (z : Fits (entries_of s) s) where
-  kinds_in : take (entries_of s) (library_of s).kinds ≡ take (entries_of s) (drop 2 s)
+  kinds_in : map (λ (t : StoredEntry). t.kind) (library_of s).entries.items ≡ take (entries_of s) (drop 2 s)
   kinds_in =
       let n = entries_of s in
       let l = z.long in
-      let m = z.most in
-      let k : length (take n (drop 2 s)) ≡ n = length-take n (drop 2 s) ∙ rw (length-drop 2 s) (omega arith) in
-      over_front n (take n (drop 2 s)) (zero_bytes 64) (omega arith) (omega (arith, length_zero_bytes 64))
-      ∙ take-take n n (drop 2 s) (omega arith)
+      map_table (λ (t : StoredEntry). t.kind) n (stored_in s)
+      ∙ table_ext n (λ i. kind_at s i) (λ i. get_or (drop 2 s) i 0) (λ i h. sym (get_or-drop 2 s i 0))
+      ∙ ones n (drop 2 s) (omega (arith, length-drop 2 s))
 
-  settings_in : take (12 * entries_of s) (library_of s).settings ≡ drop (2 + entries_of s) s
+  settings_in : flat_map (λ (t : StoredEntry). t.setting) (library_of s).entries.items ≡ drop (2 + entries_of s) s
   settings_in =
       let n = entries_of s in
       let l = z.long in
-      let m = z.most in
-      let k : length (drop (2 + n) s) ≡ 12 * n = length-drop (2 + n) s ∙ omega arith in
-      over_front (12 * n) (drop (2 + n) s) (zero_bytes 768) (omega arith) (omega (arith, length_zero_bytes 768))
-      ∙ take_all (12 * n) (drop (2 + n) s) (omega arith)
+      twelves n (drop (2 + n) s) (λ (t : StoredEntry). t.setting) (stored_in s) (λ i. ap (take 12) (sym (drop-drop (12 * i) (2 + n) s)))
+      ∙ take_all (12 * n) (drop (2 + n) s) (omega (arith, length-drop (2 + n) s))
 
 -- the sheet of the library is the sheet
 bytes_in : (s : List ℕ) → Sized s → bytes_of (library_of s) ≡ s
@@ -53,58 +59,54 @@ bytes_in s z =
     let b : edition_byte (edition_in s) ≡ get_or s 1 0 = edition_back z.edition in
     let c : drop n (drop 2 s) ≡ drop (2 + n) s = drop-drop n 2 s in
     let d : take n (drop 2 s) ++ drop (2 + n) s ≡ drop 2 s = rw (← c) (take-append-drop n (drop 2 s)) in
-    rw (kinds_in s z.fits, settings_in s z.fits, d) (ap (λ (x : ℕ). get_or s 0 0 ∷ x ∷ drop 2 s) b ∙ sym (two_first s (omega arith)))
+    rw (count_in s, kinds_in s z.fits, settings_in s z.fits, d) (ap (λ (x : ℕ). get_or s 0 0 ∷ x ∷ drop 2 s) b ∙ sym (two_first s (omega arith)))
 
 -- ---- the round trips
 
 module _ (s : List ℕ) (h : Sheet s) where
-  accepted : (out : List ℕ) → length s ≤ length out → write_refusal (entries_of s) (length out) ≡ 0
+  accepted : (out : List ℕ) → length s ≤ length out → write_number (library_of s) out ≡ 0
   accepted out r =
       let l = h.size.fits.long in
-      sym (write_fits (entries_of s) (length out) h.size.fits.some h.size.fits.most (omega arith))
+      rw (count_in s) (sym (write_fits (entries_of s) (length out) h.size.fits.some h.size.fits.most (omega arith)))
 
   pub rewritten : (out : List ℕ) → length s ≤ length out → Rewritten s out
   rewritten out r =
-      let n = entries_of s in
       let a = accepted out r in
-      let l : 2 + 13 * n ≡ length s = sym h.size.fits.long in
       record {
-        answer = rw (a, l) refl;
-        bytes = rw (a, l, bytes_in s h.size, take-length) (over_all s out r);
+        accepted = a;
+        answer = rw (count_in s) (sym h.size.fits.long);
+        bytes = rw (a, bytes_in s h.size) (over_all s out r);
       }
 
-  pub reread : (out : List ℕ) → length s ≤ length out → read_of (take (length s) (written_of (library_of s) out)) ≡ record { number = 0; library = library_of s }
+  pub reread : (out : List ℕ) → length s ≤ length out → Reread s out
   reread out r =
-      let w : take (length s) (written_of (library_of s) out) ≡ s = rw (rewritten out r).bytes (take-append_seam s (drop (length s) out)) in
-      ap read_of w ∙ rw (sheet_check s h) refl
+      let w : written_sheet s out ≡ s = rw (rewritten out r).bytes (take-append_seam s (drop (length s) out)) in
+      record { accepted = rw w (sheet_check s h); library = ap library_of w }
+
+pub read_write : ReadWrite
+read_write s out h l = rewritten s h out l
+
+pub write_read : WriteRead
+write_read s out h l = reread s h out l
 
 pub refused_write : RefusedWrite
-refused_write l out z = rw (ne_eqb (write_refusal l.n (length out)) 0 z) (over_none 0 out)
+refused_write l out z = rw (ne_eqb (write_number l out) 0 z) refl
 
 pub one_sheet : OneSheet
 one_sheet s t h k e = sym (bytes_in s h.size) ∙ ap bytes_of e ∙ bytes_in t k.size
 
 -- ---- entries
 
-module _ (s : List ℕ) (h : Sheet s) (e : ℕ) (l : e < entries_of s) where
-  kind_in : get_or (library_of s).kinds e 0 ≡ kind_at s e
-  kind_in =
-      let n = entries_of s in
-      sym (get_or-take n (library_of s).kinds e 0 l) ∙ ap (λ (x : List ℕ). get_or x e 0) (kinds_in s h.size.fits) ∙ get_or-take n (drop 2 s) e 0 l ∙ get_or-drop 2 s e 0
-
-  setting_is_in : setting_in (library_of s) e ≡ setting_at s e
-  setting_is_in =
-      let n = entries_of s in
-      sym (part_of_first (12 * e) 12 (12 * n) (library_of s).settings (omega arith))
-      ∙ ap (λ (x : List ℕ). take 12 (drop (12 * e) x)) (settings_in s h.size.fits)
-      ∙ ap (take 12) (drop-drop (12 * e) (2 + n) s)
-
-  entry_is_in : entry_at (library_of s) e ≡ entry_in s e
-  entry_is_in = rw (kind_in, setting_is_in) refl
+entry_is_in : (s : List ℕ) (e : ℕ) → e < entries_of s → entry_at (library_of s) e ≡ entry_in s e
+entry_is_in s e l =
+    let n = entries_of s in
+    let p = get_or_table n (stored_in s) e (stored_in s e) l in
+    let q : slice_get (table n (stored_in s)) e ≡ Some (stored_in s e) = slice_get-get_or (table n (stored_in s)) e (stored_in s e) (rw (length_table n (stored_in s)) l) ∙ ap Some p in
+    ap entry_from q
 
 pub same_entries : SameEntries
-same_entries s h = record { number = refl; edition = refl; most = h.size.fits.most; entry = λ e l. entry_is_in s h e l }
+same_entries s h = record { number = count_in s; edition = refl; most = rw (count_in s) h.size.fits.most; entry = λ e l. entry_is_in s e l }
 
 -- no bytes stand for no library
 pub no_sheet : library_of [] ≡ none
-no_sheet = simp over_none
+no_sheet = rw table_none refl

@@ -4,13 +4,14 @@ use mathlib.Core.Path.{◌≡◌, refl}
 use mathlib.Core.List.{List, [], ◌∷◌}
 use mathlib.Core.Logic.{◌⊎◌, inl, inr}
 use native.Mathlib.Omega.{arith}
-use borrow.Author.Tests.{lt-ltb, le-ltb, eq-eqb, ne_eqb}
+use borrow.Author.Tests.{lt-ltb, le-ltb}
 use lib.ListN.{length}
 use Rattle.filter_core.specs.Rows.{First, none, here, later}
 use Rattle.filter_core.proofs.Rows.{below, exactly}
-use Rattle.library.specs.Library.{write_refusal}
+use Rattle.library.specs.Library.{count, stored_in, write_refusal}
 use Rattle.library.specs.Rows.{nothing, of_sheet, WriteCase, no_entries, short, WriteRow, WriteByRows}
 use Rattle.library.specs.declared.Library.{Library}
+use Rattle.lists.proofs.Tables.{length_table}
 
 module _ {n m : ℕ} where
   size_case : {r : ℕ} → r ≡ 2 → WriteCase n m r → n ≡ 0
@@ -46,14 +47,9 @@ module _ (n m : ℕ) (h : n ≤ 64) where
       go (inr a) (inl b) = rw (← write_short n m a h b) (later (has_entries a) (here (short b)))
       go (inr a) (inr b) = rw (← write_fits n m a h b) (later (has_entries a) (later (has_room b) none))
 
-write_row : (l : Library) (out : List ℕ) → l.n ≤ 64 → WriteRow l l.n out
-write_row l out h =
-    record {
-      number = exactly (write_first l.n (length out) h);
-      accepted = λ z. rw (eq-eqb _ _ z) refl;
-      refused = λ z. rw (ne_eqb _ _ z) refl;
-    }
+write_row : (l : Library) (n : ℕ) (out : List ℕ) → count l ≡ n → n ≤ 64 → WriteRow l n out
+write_row l n out e h = record { number = rw e (exactly (write_first n (length out) h)); answer = rw e refl }
 
 pub write_by_rows : WriteByRows
-write_by_rows l n nothing out = write_row l out (omega arith)
-write_by_rows l n (of_sheet h) out = write_row l out h.size.fits.most
+write_by_rows l n nothing out = write_row l 0 out refl (omega arith)
+write_by_rows l n (of_sheet {s} h) out = write_row l n out (length_table n (stored_in s)) h.size.fits.most

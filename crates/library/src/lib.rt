@@ -1,34 +1,31 @@
 // A library: a sheet's entries and its edition, held by value.
 #![tactic(auto)]
 
-ghost use Rattle.std.specs.Prelude.{◌≡◌, ◌%◌, ◌≤◌};
-ghost use Rattle.lists.specs.Over.{over};
-ghost use Rattle.sheets.specs.Sheet.{entries_of, Fits};
-ghost use Rattle.library.specs.Library.{zero_bytes, none, library_of, read_of, bytes_of, write_refusal, written_length, write_of, written_of, entry_at};
+ghost use Rattle.std.specs.Prelude.{◌≡◌, ◌+◌, ◌*◌, ◌≤◌, ◌<◌, length, map, IfOk};
+ghost use Rattle.std.specs.List.{flat_map};
+ghost use Rattle.filter_core.specs.Refusal.{number_in};
+ghost use Rattle.lists.specs.Over.{over, Puts};
+ghost use Rattle.sheets.specs.Sheet.{entries_of, check_of, Fits};
+ghost use Rattle.library.specs.Library.{none, stored_in, library_of, bytes_of, write_refusal, write_number, sheet_length, written_of, entry_at};
 ghost use Rattle.library.specs.Rows.{WriteByRows};
 ghost use Rattle.library.specs.RoundTrip.{ReadWrite, WriteRead, RefusedWrite, OneSheet, SameEntries};
 
+use arrayvec::ArrayVec;
+use filter_core::Refusal;
 use sheets::{Edition, Entry};
 
-// The places of `kinds` and `settings` past the n entries are zeros, so a library is one value.
-#[derive(Clone, Copy)]
+// An entry's bytes, as they stand in the sheet.
+#[derive(Clone, Copy, Debug, Default, PartialEq, Eq)]
+pub struct StoredEntry {
+    pub kind: u8,
+    pub setting: [u8; 12],
+}
+
+// No sheet has more than 64 entries.
+#[derive(Clone, Debug, Drop, PartialEq, Eq)]
 pub struct Library {
-    pub n: usize,
     pub edition: Edition,
-    pub kinds: [u8; 64],
-    pub settings: [u8; 768],
-}
-
-#[derive(Clone, Copy)]
-pub struct Reading {
-    pub number: u8,
-    pub library: Library,
-}
-
-#[derive(Clone, Copy)]
-pub struct Written {
-    pub number: u8,
-    pub length: usize,
+    pub entries: ArrayVec<StoredEntry, 64>,
 }
 
 // The library of a frame that has opened no sheet.
@@ -36,10 +33,24 @@ pub fn none() -> Library
     ensures { result ≡ none }
 {
     Library {
-        n: 0,
         edition: Edition::One,
-        kinds: [0u8; 64],
-        settings: [0u8; 768],
+        entries: ArrayVec::new(),
+    }
+}
+
+// ---- reading
+
+// Entry e of a sheet of n entries.
+fn stored_in(sheet: &[u8], n: usize, e: usize) -> StoredEntry
+    requires { Fits n sheet.now × (n ≡ entries_of sheet.now) × (e < n) }
+    ensures { result ≡ stored_in sheet.now e }
+{
+    let at = 2 + n + 12 * e;
+    let mut setting = [0; 12];
+    setting.copy_from_slice(&sheet[at..at + 12]);
+    StoredEntry {
+        kind: sheet[2 + e],
+        setting,
     }
 }
 
@@ -47,113 +58,100 @@ fn library_of(sheet: &[u8], n: usize) -> Library
     requires { Fits n sheet.now × (n ≡ entries_of sheet.now) }
     ensures { result ≡ library_of sheet.now }
 {
-    let end = 2 + n;
-    let mut kinds = [0u8; 64];
-    lists::copy(&sheet[2..end], &mut kinds, 0);
-    let mut settings = [0u8; 768];
-    lists::copy(&sheet[end..], &mut settings, 0);
-    Library {
-        n: n,
+    let mut library = Library {
         edition: sheets::edition_in(sheet),
-        kinds: kinds,
-        settings: settings,
+        entries: ArrayVec::new(),
+    };
+    for e in 0..n {
+        library.entries.push(stored_in(sheet, n, e));
     }
+    library
 }
 
-// The sheet's library, with the number 0; or the number that refuses it, with no library.
-pub fn read(sheet: &[u8]) -> Reading
-    ensures { result ≡ read_of sheet.now }
+// The sheet's library; what is no sheet has none.
+pub fn read(sheet: &[u8]) -> Result<Library, Refusal>
+    ensures refusal { number_in result ≡ check_of sheet.now }
+    ensures library { IfOk result (λ library. library ≡ library_of sheet.now) }
 {
-    let number = sheets::check(sheet);
-    if number != 0 {
-        return Reading {
-            number: number,
-            library: none(),
-        };
-    }
-    Reading {
-        number: 0,
-        library: library_of(sheet, sheets::entries(sheet)),
-    }
+    sheets::check(sheet)?;
+    Ok(library_of(sheet, sheets::entries(sheet)))
 }
 
-fn write_refusal(n: usize, room: usize) -> u8
-    ensures { result ≡ write_refusal n room }
+// ---- writing
+
+// The length of a sheet of n entries, where a write to so much room is accepted.
+fn check_write(n: usize, room: usize) -> Result<usize, Refusal>
+    requires { n ≤ 64 }
+    ensures refusal { number_in result ≡ write_refusal n room }
+    ensures length { IfOk result (λ length. length ≡ 2 + 13 * n) }
 {
     if n < 1 {
-        return 2;
+        return Err(Refusal::Size);
     }
-    if 64 < n {
-        return 2;
-    }
-    lists::room_refusal(2 + 13 * n, room)
+    let length = 2 + 13 * n;
+    lists::check_room(length, room)?;
+    Ok(length)
 }
 
-fn written_length(number: u8, n: usize) -> usize
-    requires { number ≡ 0 → n ≤ 64 }
-    ensures value { result ≡ written_length number n }
-    ensures upper_bound { result ≤ 834 }
+fn put_kinds(entries: &[StoredEntry], output: &mut [u8], from: usize) -> usize
+    ensures { Puts from (map (λ t. t.kind) entries.now) output.old result output.new }
 {
-    if number == 0 { 2 + 13 * n } else { 0 }
-}
-
-fn low_byte(n: usize) -> u8
-    ensures { result ≡ n % 256 }
-{
-    (n % 256) as u8
-}
-
-// The sheet of a library, in an array that holds the longest; none for more than 64 entries, which no sheet has.
-fn sheet_of(library: Library) -> [u8; 834]
-    ensures { library.n ≤ 64 → result ≡ over 0 (bytes_of library) (zero_bytes 834) }
-{
-    let mut bytes = [0u8; 834];
-    let n = library.n;
-    if 64 < n {
-        return bytes;
+    let mut at = from;
+    for entry in entries {
+        at = lists::put(&[entry.kind], output, at);
     }
-    let edition = library.edition;
-    let front = [low_byte(n), sheets::edition_byte(edition)];
-    lists::copy(&front, &mut bytes, 0);
-    let kinds = library.kinds;
-    lists::copy(&kinds[..n], &mut bytes, 2);
-    let settings = library.settings;
-    lists::copy(&settings[..12 * n], &mut bytes, 2 + n);
-    bytes
+    at
 }
 
-// A refused write has the length 0, so it copies nothing.
-pub fn write(library: Library, output: &mut [u8]) -> Written
-    ensures value { result ≡ write_of library output.old }
-    ensures output_after { output.new ≡ written_of library output.old }
+fn put_settings(entries: &[StoredEntry], output: &mut [u8], from: usize) -> usize
+    ensures { Puts from (flat_map (λ t. t.setting) entries.now) output.old result output.new }
 {
-    let number = write_refusal(library.n, output.len());
-    let length = written_length(number, library.n);
-    let bytes = sheet_of(library);
-    lists::copy(&bytes[..length], output, 0);
-    Written {
-        number: number,
-        length: length,
+    let mut at = from;
+    for entry in entries {
+        at = lists::put(&entry.setting, output, at);
     }
+    at
 }
+
+fn put_sheet(library: &Library, output: &mut [u8])
+    ensures { output.new ≡ over 0 (bytes_of library.now) output.old }
+{
+    let entries = library.entries.as_slice();
+    let front = [entries.len() as u8, u8::from(library.edition)];
+    let kinds = lists::put(&front, output, 0);
+    let settings = put_kinds(entries, output, kinds);
+    put_settings(entries, output, settings);
+}
+
+// Writes the library's sheet, and answers its length. A refused write leaves every byte.
+pub fn write(library: &Library, output: &mut [u8]) -> Result<usize, Refusal>
+    ensures refusal { number_in result ≡ write_number library.now output.old }
+    ensures length { IfOk result (λ length. length ≡ sheet_length library.now) }
+    ensures output_after { output.new ≡ written_of library.now output.old }
+{
+    let length = check_write(library.entries.len(), output.len())?;
+    put_sheet(library, output);
+    Ok(length)
+}
+
+// ---- an entry
 
 // Entry e of a library. A place past the last has the kind byte 0 and zeros for words.
-pub fn entry_at(library: Library, e: usize) -> Entry
-    ensures { result ≡ entry_at library e }
+pub fn entry_at(library: &Library, e: usize) -> Entry
+    ensures { result ≡ entry_at library.now e }
 {
-    if 63 < e {
-        return Entry {
+    match library.entries.get(e) {
+        Some(entry) => sheets::entry_of(entry.kind, &entry.setting),
+        None => Entry {
             kind: 0,
             a: 0,
             b: 0,
             c: 0,
-        };
+        },
     }
-    let kinds = library.kinds;
-    let settings = library.settings;
-    let at = 12 * e;
-    sheets::entry_of(kinds[e], &settings[at..at + 12])
 }
+
+// ---- the theorems
 
 // `write` answers each number in its row's case of the refusal table, and in no other.
 pub fn write_by_rows()

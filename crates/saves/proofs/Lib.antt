@@ -1,3 +1,3 @@
-pub mod Left
+pub mod Zeros
 pub mod Rows
 pub mod Parts

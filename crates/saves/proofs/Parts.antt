@@ -9,15 +9,14 @@ use borrow.Author.Tests.{eq-eqb, ne_eqb, le-ltb}
 use lib.ListN.{length, take, drop, take-append-drop, drop_of_length-le}
 use lib.Seq.{drop-drop, take-append_seam}
 use Rattle.filter_core.proofs.Rows.{below}
-use Rattle.lists.specs.Over.{room}
+use Rattle.lists.specs.Over.{room, over}
 use Rattle.lists.proofs.Over.{over_none, drop_room, over_written, over_kept}
 use Rattle.sheets.specs.Rows.{Sheet}
-use Rattle.library.specs.Library.{zero_bytes, library_of, written_of}
+use Rattle.library.specs.Library.{library_of, written_of}
 use Rattle.library.specs.declared.Library.{Library}
-use Rattle.library.specs.declared.Written.{Written}
 use Rattle.library.proofs.RoundTrip.{rewritten}
-use Rattle.library.proofs.Zeros.{length_zero_bytes}
-use Rattle.saves.specs.Save.{left_of, begin_refusal, begun_with, advanced_by, begin_of, take_of}
+use Rattle.saves.proofs.Zeros.{length_zero_bytes}
+use Rattle.saves.specs.Save.{zero_bytes, left_of, begin_refusal, begun_with, advanced_by, begin_of, take_refusal, take_length, take_of}
 use Rattle.saves.specs.Parts.{part_of, Part, TakeLeaves, Parts}
 use Rattle.saves.specs.declared.Save.{Save}
 
@@ -30,28 +29,27 @@ left_begun s h =
     let l = h.size.fits.long in
     let m = h.size.fits.most in
     let w = rewritten s h (zero_bytes 834) (omega (arith, length_zero_bytes 834)) in
-    ap (λ (t : Written). take t.length (written_of (library_of s) (zero_bytes 834))) w.answer
-    ∙ rw w.bytes (take-append_seam s (drop (length s) (zero_bytes 834)))
+    ap (λ (k : ℕ). take k (written_of (library_of s) (zero_bytes 834))) w.answer ∙ rw w.bytes (take-append_seam s (drop (length s) (zero_bytes 834)))
 
 module _ (v : Save) (l : Library) where
-  pub begin_accepted : (begin_of v l).number ≡ 0 → (begin_of v l).save ≡ begun_with l
+  pub begin_accepted : begin_refusal (length (left_of v)) l ≡ 0 → begin_of v l ≡ begun_with l
   begin_accepted z = rw (eq-eqb (begin_refusal (length (left_of v)) l) 0 z) refl
 
-  pub begin_refused : ((begin_of v l).number ≡ 0 → ⊥) → (begin_of v l).save ≡ v
+  pub begin_refused : (begin_refusal (length (left_of v)) l ≡ 0 → ⊥) → begin_of v l ≡ v
   begin_refused z = rw (ne_eqb (begin_refusal (length (left_of v)) l) 0 z) refl
 
 -- ---- take
 
 left_advanced : (k : ℕ) (v : Save) → left_of (advanced_by k v) ≡ drop k (left_of v)
 unfolding left_of
-left_advanced k v = sym (drop-drop k v.taken (take v.length v.bytes))
+left_advanced k v = sym (drop-drop k v.taken v.bytes.items)
 
 module _ (v : Save) (out : List ℕ) where
   -- less by what has room
-  pub left_taken : left_of (take_of v out).save ≡ drop (length out) (left_of v)
+  pub left_taken : left_of (take_of v out) ≡ drop (length out) (left_of v)
   left_taken = left_advanced (room 0 (left_of v) out) v ∙ drop_room (left_of v) out
 
-  full : (left_of (take_of v out).save ≡ [] → ⊥) → (take_of v out).length ≡ length out
+  full : (left_of (take_of v out) ≡ [] → ⊥) → take_length v out ≡ length out
   full z =
       ⊎_elim (λ (h : length out < length (left_of v)). omega arith)
       (λ (h : length (left_of v) ≤ length out). absurd (z (left_taken ∙ drop_of_length-le (left_of v) {i = length out} h)))
@@ -70,14 +68,18 @@ module _ (v : Save) (out : List ℕ) where
       }
 
   -- 17 is answered where nothing is left
-  none_left : ((take_of v out).number ≡ 0 → ⊥) → left_of v ≡ []
+  none_left : (take_refusal v ≡ 0 → ⊥) → left_of v ≡ []
   none_left z =
       ⊎_elim (λ (h : length (left_of v) < 1). drop_of_length-le (left_of v) {i = 0} (omega arith))
       (λ (h : 1 ≤ length (left_of v)). absurd (z (rw (le-ltb (length (left_of v)) 1 h) refl)))
       (below (length (left_of v)) 1)
 
-  pub take_refused : ((take_of v out).number ≡ 0 → ⊥) → TakeLeaves v out
-  take_refused z = let e = none_left z in record { answer = rw (e, zero-min (length out - 0), add-zero v.taken) refl; output = rw e (over_none 0 out) }
+  pub take_refused : (take_refusal v ≡ 0 → ⊥) → TakeLeaves v out
+  take_refused z = let e = none_left z in record { length = rw (e, zero-min (length out - 0)) refl; save = rw (e, zero-min (length out - 0), add-zero v.taken) refl; output = rw e (over_none 0 out) }
+
+-- so the code need not write
+pub nothing_taken : (v : Save) (out : List ℕ) → length (left_of v) < 1 → over 0 (left_of v) out ≡ out
+nothing_taken v out h = let e : left_of v ≡ [] = drop_of_length-le (left_of v) {i = 0} (omega arith) in rw e (over_none 0 out)
 
 pub parts : Parts
 unfolding left_of

@@ -9,12 +9,13 @@ use lib.Dec.{ltb}
 use lib.ListN.{length}
 use Rattle.filter_core.specs.Rows.{First}
 use Rattle.filter_core.proofs.Rows.{below, Step, yes, no, exactly, step_if, step_to, first_then, first_last}
-use Rattle.library.specs.Library.{zero_bytes, write_refusal, write_of}
+use Rattle.library.specs.Library.{write_refusal, write_number}
 use Rattle.library.specs.Rows.{Held, nothing, of_sheet}
 use Rattle.library.specs.declared.Library.{Library}
 use Rattle.library.proofs.Rows.{write_none, write_fits}
-use Rattle.library.proofs.Zeros.{length_zero_bytes}
-use Rattle.saves.specs.Save.{left_of, unfinished_refusal, finished_refusal, begin_refusal}
+use Rattle.library.proofs.RoundTrip.{count_in}
+use Rattle.saves.proofs.Zeros.{length_zero_bytes}
+use Rattle.saves.specs.Save.{zero_bytes, left_of, unfinished_refusal, finished_refusal, begin_refusal}
 use Rattle.saves.specs.Rows.{BeginCase, unfinished, no_entries, TakeCase, finished, SavesByRows}
 
 module _ {k n : ℕ} where
@@ -30,7 +31,7 @@ pub finished_case : {k r : ℕ} → r ≡ 17 → TakeCase k r → k ≡ 0
 finished_case p (finished e) = e
 
 -- a write with room for every sheet refuses where there is no library, and nowhere else
-no_library : (l : Library) (n : ℕ) → Held l n → Step (n ≡ 0) 2 (write_of l (zero_bytes 834)).number
+no_library : (l : Library) (n : ℕ) → Held l n → Step (n ≡ 0) 2 (write_number l (zero_bytes 834))
 no_library l n h = go l n h (below n 1)
   where
     some : (n : ℕ) → n ≤ 64 → (n < 1) ⊎ (1 ≤ n) → Step (n ≡ 0) 2 (write_refusal n (length (zero_bytes 834)))
@@ -39,9 +40,9 @@ no_library l n h = go l n h (below n 1)
         let w = length_zero_bytes 834 in
         rw (← write_fits n (length (zero_bytes 834)) a m (omega arith)) (no (λ e. omega arith))
 
-    go : (l : Library) (n : ℕ) → Held l n → (n < 1) ⊎ (1 ≤ n) → Step (n ≡ 0) 2 (write_of l (zero_bytes 834)).number
+    go : (l : Library) (n : ℕ) → Held l n → (n < 1) ⊎ (1 ≤ n) → Step (n ≡ 0) 2 (write_number l (zero_bytes 834))
     go l n nothing b = some 0 (omega arith) b
-    go l n (of_sheet h) b = some n h.size.fits.most b
+    go l n (of_sheet {s} h) b = rw (count_in s) (some n h.size.fits.most b)
 
 module _ (k : ℕ) where
   unfinished_step : Step (0 < k) 16 (unfinished_refusal k)
@@ -62,5 +63,5 @@ pub saves_by_rows : SavesByRows
 saves_by_rows =
     record {
       begins = λ v l n h. exactly (begin_row (length (left_of v)) l n h);
-      takes = λ v out. exactly (take_row (length (left_of v)));
+      takes = λ v. exactly (take_row (length (left_of v)));
     }

@@ -2,90 +2,66 @@
 // meantime does not reach it.
 #![tactic(auto)]
 
-ghost use Rattle.std.specs.Prelude.{◌≡◌, length};
-ghost use Rattle.filter_core.specs.Refusal.{unless_refused};
-ghost use Rattle.lists.specs.Over.{room, over};
-ghost use Rattle.saves.specs.Save.{untaken, no_save, left_of, unfinished_refusal, finished_refusal, begin_number, begin_of, take_of, taken_of};
+ghost use Rattle.std.specs.Prelude.{◌≡◌, ◌-◌, ◌≤◌, length, IfOk};
+ghost use Rattle.filter_core.specs.Refusal.{number_in, unless_refused};
+ghost use Rattle.library.specs.Library.{write_number};
+ghost use Rattle.saves.specs.Save.{zero_bytes, untaken, no_save, left_of, unfinished_refusal, finished_refusal, begun_with, begin_refusal, begin_of, take_refusal, take_length, take_of, taken_of};
 ghost use Rattle.saves.specs.Rows.{SavesByRows};
 ghost use Rattle.saves.specs.Parts.{Parts};
 
+use arrayvec::ArrayVec;
+use filter_core::Refusal;
 use library::Library;
 
-// The sheet's bytes, with zeros behind; how many it has, and how many of them were taken. The longest sheet has 834.
-#[derive(Clone, Copy)]
+// The sheet's bytes, and how many of them were taken. The longest sheet has 834.
+#[derive(Clone, Debug, Drop, PartialEq, Eq)]
 pub struct Save {
-    pub bytes: [u8; 834],
-    pub length: usize,
+    pub bytes: ArrayVec<u8, 834>,
     pub taken: usize,
-}
-
-// The number is 0, or that of the refusal.
-#[derive(Clone, Copy)]
-pub struct Begun {
-    pub number: u8,
-    pub save: Save,
-}
-
-// How many bytes were written, which is 0 where the call is refused.
-#[derive(Clone, Copy)]
-pub struct Taken {
-    pub number: u8,
-    pub length: usize,
-    pub save: Save,
 }
 
 // ---- the refusals, where so many bytes are left to take
 
-fn unfinished_refusal(left: usize) -> u8
-    ensures { result ≡ unfinished_refusal left }
+fn check_unfinished(left: usize) -> Result<(), Refusal>
+    ensures { number_in result ≡ unfinished_refusal left }
 {
-    if 0 < left { 16 } else { 0 }
+    if 0 < left {
+        Err(Refusal::Unfinished)
+    } else {
+        Ok(())
+    }
 }
 
-fn finished_refusal(left: usize) -> u8
-    ensures { result ≡ finished_refusal left }
+fn check_finished(left: usize) -> Result<(), Refusal>
+    ensures { number_in result ≡ finished_refusal left }
 {
-    if left < 1 { 17 } else { 0 }
-}
-
-// `write` is the number that a write of the library gets.
-fn begin_refusal(left: usize, write: u8) -> u8
-    ensures { result ≡ begin_number left write }
-{
-    let unfinished = unfinished_refusal(left);
-    filter_core::then(unfinished, write)
-}
-
-// The save after a begin with this number.
-fn unless_refused(number: u8, was: Save, made: Save) -> Save
-    ensures { result ≡ unless_refused number was made }
-{
-    if number == 0 { made } else { was }
+    if left < 1 {
+        Err(Refusal::Finished)
+    } else {
+        Ok(())
+    }
 }
 
 // ---- a save, and what is left of it
 
-// A save of the first bytes of an array, none of which is taken yet.
-fn untaken(bytes: [u8; 834], length: usize) -> Save
-    ensures { result ≡ untaken bytes length }
+// A save of which nothing is taken yet.
+fn untaken(bytes: ArrayVec<u8, 834>) -> Save
+    ensures { result ≡ untaken bytes.items }
 {
-    Save {
-        bytes: bytes,
-        length: length,
-        taken: 0,
-    }
+    Save { bytes, taken: 0 }
 }
 
-// Copies as much of what is left as has room, and answers how many bytes that is. No call makes a save whose numbers go past the array; they
-// are limited all the same, since the contract is for every save.
-fn put_left(save: Save, output: &mut [u8]) -> usize
-    ensures value { result ≡ room 0 (left_of save) output.old }
-    ensures output_after { output.new ≡ over 0 (left_of save) output.old }
+// A save of the library's sheet.
+#[tactic(auto, unfolding(crate::specs::Save::zero_bytes))]
+fn begun_with(library: &Library) -> Result<Save, Refusal>
+    ensures refusal { number_in result ≡ write_number library.now (zero_bytes 834) }
+    ensures save { IfOk result (λ save. save ≡ begun_with library.now) }
 {
-    let end = filter_core::shortest(save.length, 834);
-    let at = filter_core::shortest(save.taken, end);
-    let bytes = save.bytes;
-    lists::put(&bytes[at..end], output, 0)
+    let mut sheet = [0; 834];
+    let length = library::write(library, &mut sheet)?;
+    let mut bytes = ArrayVec::from(sheet);
+    bytes.truncate(length);
+    Ok(untaken(bytes))
 }
 
 impl Save {
@@ -93,55 +69,62 @@ impl Save {
     pub fn none() -> Save
         ensures { result ≡ no_save }
     {
-        untaken([0u8; 834], 0)
+        untaken(ArrayVec::new())
+    }
+
+    // No call makes a save of which more is taken than there is; all the same the contract is for every save.
+    #[tactic(auto, unfolding(crate::specs::Save::left_of))]
+    fn left(&self) -> &[u8]
+        ensures value { result.now ≡ left_of self.now }
+        ensures fits { length result.now ≤ 834 - self.now.taken }
+    {
+        let bytes = self.bytes.as_slice();
+        &bytes[self.taken.min(bytes.len())..]
     }
 
     // How many bytes are left to take; the save is unfinished while there are some.
-    pub fn bytes_left(self) -> usize
-        ensures { result ≡ length (left_of self) }
+    #[tactic(auto, unfolding(crate::specs::Save::left_of))]
+    pub fn bytes_left(&self) -> usize
+        ensures { result ≡ length (left_of self.now) }
     {
-        let end = filter_core::shortest(self.length, 834);
-        end - filter_core::shortest(self.taken, end)
+        self.bytes.len().saturating_sub(self.taken)
     }
 
     // Begins a save of the library, unless one is unfinished or there is no library.
-    pub fn begin(self, library: Library) -> Begun
-        ensures { result ≡ begin_of self library }
+    pub fn begin(&mut self, library: &Library) -> Result<(), Refusal>
+        ensures refusal { number_in result ≡ begin_refusal (length (left_of self.old)) library.now }
+        ensures save { self.new ≡ begin_of self.old library.now }
     {
-        let mut bytes = [0u8; 834];
-        let written = library::write(library, &mut bytes);
-        let number = begin_refusal(self.bytes_left(), written.number);
-        let made = untaken(bytes, written.length);
-        Begun {
-            number: number,
-            save: unless_refused(number, self, made),
-        }
+        check_unfinished(self.bytes_left())?;
+        *self = begun_with(library)?;
+        Ok(())
     }
 
-    // Takes the next bytes, as many as the output has room for. Places behind them keep their contents.
-    pub fn take(mut self, output: &mut [u8]) -> Taken
-        ensures value { result ≡ take_of self output.old }
-        ensures output_after { output.new ≡ taken_of self output.old }
+    // Takes the next bytes, as many as the output has room for, and answers how many. Places behind them keep their contents.
+    #[tactic(auto, using(crate::proofs::Parts::nothing_taken))]
+    pub fn take(&mut self, output: &mut [u8]) -> Result<usize, Refusal>
+        ensures refusal { number_in result ≡ take_refusal self.old }
+        ensures length { IfOk result (λ length. length ≡ take_length self.old output.old) }
+        ensures save { self.new ≡ take_of self.old output.old }
+        ensures output_after { output.new ≡ taken_of self.old output.old }
     {
-        let number = finished_refusal(self.bytes_left());
-        let n = put_left(self, output);
+        check_finished(self.bytes_left())?;
+        let n = lists::put(self.left(), output, 0);
         self.taken += n;
-        Taken {
-            number: number,
-            length: n,
-            save: self,
-        }
+        Ok(n)
     }
 }
 
 // ---- the theorems
 
 // Each number is answered in its row's case, and in no other.
+#[tactic(auto, using(crate::proofs::Rows::saves_by_rows))]
 pub fn saves_by_rows()
     ensures { SavesByRows }
 {}
 
 // What is left of a save just begun is the sheet; a part, with what is left behind it, is what was left.
+#[tactic(auto, using(crate::proofs::Parts::parts))]
 pub fn parts_joined()
     ensures { Parts }
 {}

@@ -1,0 +1,5 @@
+use Rattle.library.proofs.RoundTrip.{read_write}
+use Rattle.library.proofs.read_write.Goals as goal
+
+pub returns : goal.returns
+returns c = read_write

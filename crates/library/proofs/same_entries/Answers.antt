@@ -1,0 +1,5 @@
+use Rattle.library.proofs.RoundTrip.{same_entries}
+use Rattle.library.proofs.same_entries.Goals as goal
+
+pub returns : goal.returns
+returns c = same_entries

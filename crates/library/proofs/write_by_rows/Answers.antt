@@ -1,0 +1,5 @@
+use Rattle.library.proofs.Rows.{write_by_rows}
+use Rattle.library.proofs.write_by_rows.Goals as goal
+
+pub returns : goal.returns
+returns c = write_by_rows
