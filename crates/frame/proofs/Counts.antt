@@ -4,21 +4,24 @@ use mathlib.Core.Path.{◌≡◌, refl, ap, sym}
 use mathlib.Core.Bool.{Bool, true, false}
 use borrow.Author.Tests.{ltb-true, ltb-false}
 use lib.Dec.{ltb}
+use lib.Seq.{set-get_or}
+use mathlib.Core.Bool.{cond}
 use Rattle.heads.specs.Act.{count}
+use Rattle.heads.specs.Head.{empty_head, turn}
 use Rattle.frame.specs.Call.{at}
-use Rattle.frame.specs.Calls.{head_at, Done, perform}
+use Rattle.frame.specs.Calls.{head_at, refuse, settled, perform}
 use Rattle.frame.specs.Counts.{Counts}
 use Rattle.frame.specs.History.{no_histories}
-use Rattle.frame.proofs.Calls as calls
 use Rattle.frame.proofs.Sound.{sound_all, sound_none}
 use Rattle.frame.specs.declared.Frame.{Frame}
 
 asked : (f : Frame) (h : ℕ) → (perform f (at h count)).frame ≡ f
-asked f h = go (ltb 11 h) refl
+unfolding perform turn
+asked f h = go (ltb 11 h)
   where
-    go : (b : Bool) → ltb 11 h ≡ b → (perform f (at h count)).frame ≡ f
-    go true q = ap (λ (d : Done). d.frame) (sym (calls.count_head f h (ltb-true 11 h q)))
-    go false q = ap (λ (d : Done). d.frame) (sym (calls.counts f h (head_at f h).now (ltb-false 11 h q) refl))
+    go : (b : Bool) → (cond b (refuse f (at h count) 1) (settled f h (turn (head_at f h) count))).frame ≡ f
+    go true = refl
+    go false = rw (set-get_or f.heads h empty_head) refl
 
 pub counts : Counts
 counts =

@@ -1,4 +1,3 @@
-pub mod Calls
 pub mod Refused
 pub mod Sound
 pub mod Picture

@@ -10,24 +10,28 @@ use lib.ListN.{get_or}
 use lib.Seq.{set-get_or}
 use Rattle.sheets.specs.Sheet.{entries_of, entry_in, check_of}
 use Rattle.sheets.specs.declared.entry.Entry.{Entry}
-use Rattle.library.specs.Library.{library_of, write_of}
-use Rattle.lists.proofs.Over.{over_none}
+use Rattle.library.specs.Library.{library_of, write_number}
+use Rattle.library.proofs.RoundTrip.{count_in}
 use Rattle.lists.specs.Table.{table}
 use Rattle.heads.specs.Act.{Act, refused_act}
 use Rattle.heads.specs.Snapshot.{loaded_with}
-use Rattle.heads.specs.Head.{holding}
+use Rattle.heads.specs.Head.{empty_head, holding}
 use Rattle.heads.specs.History.{load_event, HeadHistory, act_number, adding, grown_by, advance_by, accepted_act, act_reply}
 use Rattle.heads.specs.Follows.{head_for}
 use Rattle.lists.proofs.Tables.{get_or_table, table_ext, set_table}
-use Rattle.heads.proofs.Follows.{cond_out, head_follows}
+use Rattle.heads.proofs.Follows.{head_follows}
 use Rattle.frame.specs.Call.{Call, opening, writing, loading, at, plain, acted}
-use Rattle.frame.specs.Calls.{no_head, with_head, settled, perform}
+use Rattle.frame.specs.Calls.{with_head, settled, perform}
 use Rattle.frame.specs.History.{Histories, call_number, with_history, advance, reply_to}
 use Rattle.frame.proofs.Sound.{Sound}
 use Rattle.frame.specs.declared.Frame.{Frame}
 
 abbrev pub frame_for : Histories → Frame
 frame_for H = record { heads = table 12 (λ h. head_for (H.heads h)); library = library_of H.sheet }
+
+cond_out : {A B : Type 0} (g : A → B) (b : Bool) (x y : A) → cond b (g x) (g y) ≡ g (cond b x y)
+cond_out g true x y = refl
+cond_out g false x y = refl
 
 -- the picture with another head is that of the histories with another
 head_set : (H : Histories) (h : ℕ) (x : HeadHistory) → with_head (frame_for H) h (head_for x) ≡ frame_for (with_history H h x)
@@ -48,20 +52,20 @@ follows_open H s = go (eqb (check_of s) 0) refl
 
 follows_write : (H : Histories) (out : List ℕ) → Follows H (writing out)
 unfolding perform reply_to advance call_number
-follows_write H out = go (eqb (write_of (library_of H.sheet) out).number 0) refl
+follows_write H out = go (eqb (write_number (library_of H.sheet) out) 0) refl
   where
-    go : (b : Bool) → eqb (write_of (library_of H.sheet) out).number 0 ≡ b → Follows H (writing out)
-    go true q = rw (q, eqb-true (write_of (library_of H.sheet) out).number 0 q)
-    go false q = rw (q, over_none)
+    go : (b : Bool) → eqb (write_number (library_of H.sheet) out) 0 ≡ b → Follows H (writing out)
+    go true q = rw (q, eqb-true (write_number (library_of H.sheet) out) 0 q)
+    go false q = rw q
 
 module _ (H : Histories) (h : ℕ) (below : h < 12) where
   -- the picture's head
-  the_head : get_or (frame_for H).heads h no_head ≡ head_for (H.heads h)
-  the_head = get_or_table 12 (λ j. head_for (H.heads j)) h no_head below
+  the_head : get_or (frame_for H).heads h empty_head ≡ head_for (H.heads h)
+  the_head = get_or_table 12 (λ j. head_for (H.heads j)) h empty_head below
 
   -- put back where it stood
   head_same : with_head (frame_for H) h (head_for (H.heads h)) ≡ frame_for H
-  head_same = rw (← the_head, set-get_or (frame_for H).heads h no_head) refl
+  head_same = rw (← the_head, set-get_or (frame_for H).heads h empty_head) refl
 
 follows_load : (H : Histories) (h e : ℕ) → Sound H → Follows H (loading h e)
 unfolding perform reply_to advance call_number
@@ -69,9 +73,9 @@ follows_load H h e S = go (ltb 11 h) refl (leb (entries_of H.sheet) e) refl
   where
     go : (b : Bool) → ltb 11 h ≡ b → (d : Bool) → leb (entries_of H.sheet) e ≡ d → Follows H (loading h e)
     go true q d p = rw q refl
-    go false q true p = rw (q, p) refl
+    go false q true p = rw (q, count_in H.sheet, p) refl
     go false q false p =
-        rw (q, p, the_head H h (omega (arith, ltb-false 11 h q)))
+        rw (q, count_in H.sheet, p, the_head H h (omega (arith, ltb-false 11 h q)))
         (ap (λ (t : Entry). record { reply = plain 0; frame = with_head (frame_for H) h (holding (head_for (H.heads h)) (loaded_with t)) }) (S.sheet.entry e (leb-false _ _ p))
         ∙ rw (head_follows.load (H.heads h) (entry_in H.sheet e) (S.each h))
         (ap (λ g. record { reply = plain 0; frame = g }) (head_set H h (adding (H.heads h) (load_event (entry_in H.sheet e))))))

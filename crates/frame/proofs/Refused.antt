@@ -6,14 +6,13 @@ use mathlib.Core.List.{List}
 use borrow.Author.Tests.{eqb-true}
 use lib.Dec.{eqb, leb, ltb}
 use lib.Seq.{set-get_or}
-use Rattle.lists.proofs.Over.{over_none}
 use Rattle.sheets.specs.Sheet.{check_of}
-use Rattle.library.specs.Library.{write_of}
+use Rattle.library.specs.Library.{count as entry_count, write_number}
 use Rattle.heads.specs.Act.{Act, run, run_two, rest, mark, back, drop, count, head_number, refused_act}
-use Rattle.heads.specs.Head.{turn}
+use Rattle.heads.specs.Head.{empty_head, turn}
 use Rattle.heads.proofs.Refused as head
 use Rattle.frame.specs.Call.{Call, opening, writing, loading, at, number_in, refused}
-use Rattle.frame.specs.Calls.{head_at, no_head, Done, refuse, settled, perform}
+use Rattle.frame.specs.Calls.{head_at, Done, refuse, settled, perform}
 use Rattle.frame.specs.Refused.{RefusedLeaves}
 use Rattle.frame.specs.declared.Frame.{Frame}
 
@@ -33,11 +32,11 @@ module _ (f : Frame) (c : Call) where
 
 leaves_write : (f : Frame) (out : List ℕ) → Leaves f (writing out) (perform f (writing out))
 unfolding perform
-leaves_write f out = go (eqb (write_of f.library out).number 0) refl
+leaves_write f out = go (eqb (write_number f.library out) 0) refl
   where
-    go : (b : Bool) → eqb (write_of f.library out).number 0 ≡ b → Leaves f (writing out) (perform f (writing out))
+    go : (b : Bool) → eqb (write_number f.library out) 0 ≡ b → Leaves f (writing out) (perform f (writing out))
     go true q z = absurd (z (eqb-true _ _ q))
-    go false q z = rw (q, over_none) refl
+    go false q z = rw q refl
 
 refused_number : (a : Act) → head_number (refused_act 1 a) ≡ 1
 refused_number (run form us ys) = refl
@@ -50,7 +49,7 @@ refused_number count = refl
 
 -- a head that a refused call leaves is put back where it stood
 put_back : (f : Frame) (h : ℕ) (a : Act) → Leaves f (at h a) (settled f h (turn (head_at f h) a))
-put_back f h a z = ap (settled f h) (head.refused_leaves (head_at f h) a z) ∙ rw (set-get_or f.heads h no_head) refl
+put_back f h a z = ap (settled f h) (head.refused_leaves (head_at f h) a z) ∙ rw (set-get_or f.heads h empty_head) refl
 
 pub refused_leaves : RefusedLeaves
 unfolding perform
@@ -58,5 +57,5 @@ refused_leaves f (opening s) = either f (opening s) (eqb (check_of s) 0) _ _ (ac
 refused_leaves f (writing out) = leaves_write f out
 refused_leaves f (loading h e) =
     either f (loading h e) (ltb 11 h) _ _ (refusing f (loading h e) 1 refl)
-    (either f (loading h e) (leb f.library.n e) _ _ (refusing f (loading h e) 5 refl) (accepting f (loading h e) _ refl))
+    (either f (loading h e) (leb (entry_count f.library) e) _ _ (refusing f (loading h e) 5 refl) (accepting f (loading h e) _ refl))
 refused_leaves f (at h a) = either f (at h a) (ltb 11 h) _ _ (refusing f (at h a) 1 (refused_number a)) (put_back f h a)

@@ -7,11 +7,13 @@ use Rattle.library.proofs.RoundTrip.{no_sheet}
 use Rattle.lists.specs.Table.{table}
 use Rattle.heads.specs.History.{Event, snapshot_from, snapshot_of}
 use Rattle.heads.specs.Follows.{head_for, Fits, bare, held}
-use Rattle.heads.specs.declared.Slot.{Slot}
-use Rattle.heads.specs.declared.Slot.TheVariants.{Empty, Holds}
-use Rattle.lists.proofs.Tables.{get_or_table, take_table}
+use Rattle.std.specs.Prelude.{Option, None, Some}
+use Rattle.std.proofs.lemmas.List.{length-map}
+use Rattle.any_filter.specs.declared.Filter.{Filter}
+use Rattle.lists.proofs.Tables.{get_or_table}
 use Rattle.heads.proofs.Follows.{head_follows}
-use Rattle.frame.specs.Calls.{no_head, fresh_frame}
+use Rattle.heads.specs.Head.{empty_head}
+use Rattle.frame.specs.Calls.{fresh_frame}
 use Rattle.frame.specs.Call.{Call, Reply}
 use Rattle.frame.specs.History.{Histories, no_histories, advance, advance_all, reply_to, replies_to}
 use Rattle.frame.specs.Demand.{replies_from, frame_after, Upheld, Demand3}
@@ -34,12 +36,12 @@ followed H (c ∷ cs) S =
       sound = r.sound;
     }
 
--- a good history whose slot is empty is empty
-no_events : (l : List Event) (σ : Slot) → Fits l σ → σ ≡ Empty → l ≡ []
-no_events [] Empty bare e = refl
-no_events (i ∷ l) (Holds f) (held q) e = let z : ◌≡◌ {A = ℕ} 0 1 = cc in absurd (omega arith)
-no_events [] (Holds f) g e = elim g [ ]
-no_events (i ∷ l) Empty g e = elim g [ ]
+-- a good history without a filter is empty
+no_events : (l : List Event) (σ : Option Filter) → Fits l σ → σ ≡ None → l ≡ []
+no_events [] None bare e = refl
+no_events (i ∷ l) (Some f) (held q) e = let z : ◌≡◌ {A = ℕ} 0 1 = cc in absurd (omega arith)
+no_events [] (Some f) g e = elim g [ ]
+no_events (i ∷ l) None g e = elim g [ ]
 
 pub upheld : (H : Histories) (cs : List Call) → Sound H → Upheld (frame_for H) H cs
 unfolding snapshot_from
@@ -47,20 +49,18 @@ upheld H cs S =
     let r = followed H cs S in
     record {
       replies = r.replies;
-      heads = λ h l. rw (r.frame, get_or_table 12 (λ j. head_for ((advance_all H cs).heads j)) h no_head l);
+      heads = λ h l. rw (r.frame, get_or_table 12 (λ j. head_for ((advance_all H cs).heads j)) h empty_head l);
       empty =
           λ h l e. no_events ((advance_all H cs).heads h).history _ (r.sound.each h).good.fits
-          (rw (r.frame, get_or_table 12 (λ j. head_for ((advance_all H cs).heads j)) h no_head l) at e);
-      bare = λ h l e. rw (r.frame, get_or_table 12 (λ j. head_for ((advance_all H cs).heads j)) h no_head l, e);
-      standing = λ h l. rw (r.frame, get_or_table 12 (λ j. head_for ((advance_all H cs).heads j)) h no_head l);
-      marks =
-          λ h l. rw (r.frame, get_or_table 12 (λ j. head_for ((advance_all H cs).heads j)) h no_head l)
-          (take_table snapshot_of [] 4 ((advance_all H cs).heads h).checkpoints (r.sound.each h).four);
+          (rw (r.frame, get_or_table 12 (λ j. head_for ((advance_all H cs).heads j)) h empty_head l) at e);
+      bare = λ h l e. rw (r.frame, get_or_table 12 (λ j. head_for ((advance_all H cs).heads j)) h empty_head l, e);
+      standing = λ h l. rw (r.frame, get_or_table 12 (λ j. head_for ((advance_all H cs).heads j)) h empty_head l) (length-map ((advance_all H cs).heads h).checkpoints snapshot_of);
+      marks = λ h l. rw (r.frame, get_or_table 12 (λ j. head_for ((advance_all H cs).heads j)) h empty_head l);
       library = rw r.frame;
     }
 
 fresh_picture : fresh_frame ≡ frame_for no_histories
-unfolding fresh_frame table
+unfolding table
 fresh_picture = rw (no_sheet, head_follows.fresh) refl
 
 pub demand3 : Demand3

@@ -1,10 +1,9 @@
 -- Demand 3: what the frame does under any list of calls is what the histories of the calls say.
-use Rattle.std.specs.Prelude.{ℕ, ◌<◌, ◌≡◌, List, [], ◌∷◌, map, length, take}
+use Rattle.std.specs.Prelude.{ℕ, ◌<◌, ◌≡◌, List, [], ◌∷◌, length, map, None}
 use Rattle.library.specs.Library.{library_of}
 use Rattle.frame.specs.Call.{Call, Reply}
 use Rattle.frame.specs.Calls.{fresh_frame, head_at, perform}
 use Rattle.heads.specs.History.{snapshot_of}
-use Rattle.heads.specs.declared.Slot.TheVariants.{Empty}
 use Rattle.frame.specs.History.{Histories, no_histories, advance_all, replies_to}
 use Rattle.frame.specs.declared.Frame.{Frame}
 
@@ -27,14 +26,11 @@ pub record Upheld (f : Frame) (H : Histories) (cs : List Call) : Type 0 where
   -- each head holds the filter and the count of its history
   pub heads : (h : ℕ) → h < 12 → (head_at (frame_after f cs) h).now ≡ snapshot_of ((advance_all H cs).heads h).history
   -- and is empty exactly when its history is
-  pub empty : (h : ℕ) → h < 12 → (head_at (frame_after f cs) h).now.slot ≡ Empty → ((advance_all H cs).heads h).history ≡ []
-  pub bare : (h : ℕ) → h < 12 → ((advance_all H cs).heads h).history ≡ [] → (head_at (frame_after f cs) h).now.slot ≡ Empty
+  pub empty : (h : ℕ) → h < 12 → (head_at (frame_after f cs) h).now.filter ≡ None → ((advance_all H cs).heads h).history ≡ []
+  pub bare : (h : ℕ) → h < 12 → ((advance_all H cs).heads h).history ≡ [] → (head_at (frame_after f cs) h).now.filter ≡ None
   -- its marks are those of its checkpoints, as many and in order
-  pub standing : (h : ℕ) → h < 12 → (head_at (frame_after f cs) h).marked ≡ length ((advance_all H cs).heads h).checkpoints
-  pub marks :
-      (h : ℕ)
-      → h < 12
-      → take (head_at (frame_after f cs) h).marked (head_at (frame_after f cs) h).marks ≡ map snapshot_of ((advance_all H cs).heads h).checkpoints
+  pub standing : (h : ℕ) → h < 12 → length (head_at (frame_after f cs) h).marks.items ≡ length ((advance_all H cs).heads h).checkpoints
+  pub marks : (h : ℕ) → h < 12 → (head_at (frame_after f cs) h).marks.items ≡ map snapshot_of ((advance_all H cs).heads h).checkpoints
   -- the library is that of the last accepted open, or none
   pub library : (frame_after f cs).library ≡ library_of (advance_all H cs).sheet
 

@@ -2,7 +2,7 @@
 -- Nothing here is read from what a frame holds.
 use Rattle.std.specs.Prelude.{ℕ, cond, List, [], ◌∷◌, leb, ltb, eqb}
 use Rattle.sheets.specs.Sheet.{entries_of, entry_in, check_of}
-use Rattle.library.specs.Library.{library_of, write_of, written_of}
+use Rattle.library.specs.Library.{library_of, write_number, sheet_length, written_of}
 use Rattle.heads.specs.History.{load_event, HeadHistory, no_history, act_number, adding, grown_by, accepted_act}
 use Rattle.frame.specs.Call.{Call, opening, writing, loading, at, Reply, plain, wrote, acted, refused}
 
@@ -27,7 +27,7 @@ head_first h n = cond (ltb 11 h) 1 n
 
 unfoldable pub call_number : Histories → Call → ℕ
 call_number H (opening s) = check_of s
-call_number H (writing out) = (write_of (library_of H.sheet) out).number
+call_number H (writing out) = write_number (library_of H.sheet) out
 call_number H (loading h e) = head_first h (load_number H.sheet e)
 call_number H (at h a) = head_first h (act_number (H.heads h) a)
 
@@ -59,7 +59,7 @@ advance_all H (c ∷ cs) = advance_all (advance H c) cs
 
 abbrev pub accepted : Histories → Call → Reply
 accepted H (opening s) = plain 0
-accepted H (writing out) = wrote 0 (write_of (library_of H.sheet) out).length (written_of (library_of H.sheet) out)
+accepted H (writing out) = wrote 0 (sheet_length (library_of H.sheet)) (written_of (library_of H.sheet) out)
 accepted H (loading h e) = plain 0
 accepted H (at h a) = acted (accepted_act (H.heads h) a)
 
