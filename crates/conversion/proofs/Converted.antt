@@ -9,7 +9,8 @@ use lib.Seq.{take-append_seam, set-append_left}
 use Rattle.filter_core.proofs.Refusals.{stays}
 use Rattle.filter_core.proofs.Rows.{below, exactly}
 use Rattle.lists.specs.Over.{over}
-use Rattle.lists.proofs.Over.{over_none, over_all, over_one, length_over}
+use Rattle.lists.proofs.Tables.{table_ext}
+use Rattle.lists.proofs.Over.{over_all, over_one, length_over}
 use Rattle.sheets.specs.Edition.{edition_byte}
 use Rattle.sheets.specs.Sheet.{entries_of, edition_in, Fits, check_entry_of, lookup_of}
 use Rattle.sheets.specs.Rows.{Sheet}
@@ -17,14 +18,13 @@ use Rattle.sheets.specs.declared.edition.Edition.{Edition}
 use Rattle.sheets.specs.declared.edition.Edition.TheVariants.{One}
 use Rattle.sheets.proofs.Editions.{both_editions}
 use Rattle.sheets.proofs.Rows.{sheet_check}
-use Rattle.library.specs.Library.{library_of}
-use Rattle.library.specs.declared.Written.{Written}
-use Rattle.library.proofs.RoundTrip.{rewritten}
+use Rattle.library.specs.Library.{stored_in, library_of}
+use Rattle.library.proofs.RoundTrip.{count_in, rewritten}
 use Rattle.library.proofs.Rows.{write_short}
-use Rattle.conversion.specs.Conversion.{convert_refusal, put_over, convert_of, converted_of}
+use Rattle.conversion.specs.Conversion.{convert_refusal, put_over, convert_number, converted_of}
 use Rattle.conversion.specs.Converted.{in_edition, written_sheet, Writes, OldReader, Converted, library_in, AsWrite, Conversions}
 use Rattle.conversion.proofs.Rows.{up, down, told_series, tells_series, Has, too_short, accepted, taken}
-use Rattle.conversion.proofs.Moved.{length_in, entries_in, behind_in, setting_is_in, entry_is_in, byte_in, edition_is_in, long, sheet_in, in_back, in_own, one_has_no_series, no_series_in}
+use Rattle.conversion.proofs.Moved.{length_in, entries_in, setting_is_in, stored_is_in, entry_is_in, byte_in, edition_is_in, long, sheet_in, in_back, in_own, one_has_no_series, no_series_in}
 
 has_of : (v : Edition) (s : List ℕ) (m : ℕ) → Sheet s → (convert_refusal v s m ≡ 15 → ⊥) → Has v s
 has_of v s m h n p u = n (rw p (tells_series s m h u))
@@ -46,12 +46,12 @@ writes v s out h d r =
     let z = accepted s (length out) h v d r in
     let l = length_in v s in
     let a = long s h in
-    record { answer = rw (z, l) refl; bytes = rw z (byte_over s out (edition_byte v) (omega arith) r ∙ over_all (in_edition v s) out (omega arith)) }
+    record { accepted = z; answer = sym l; bytes = rw z (byte_over s out (edition_byte v) (omega arith) r ∙ over_all (in_edition v s) out (omega arith)) }
 
 copied : (s out : List ℕ) → Sheet s → length s ≤ length out → Writes (edition_in s) s out s
 copied s out h r = rw (in_own s h.size) at (writes (edition_in s) s out h (one_has_no_series s h) r)
 
-refused : (v : Edition) (s out : List ℕ) → ((convert_of v s out).number ≡ 0 → ⊥) → converted_of v s out ≡ out
+refused : (v : Edition) (s out : List ℕ) → (convert_number v s out ≡ 0 → ⊥) → converted_of v s out ≡ out
 refused v s out z = sym (stays out (put_over v s out) (refl {a = convert_refusal v s (length out)}) z)
 
 -- ---- the sheet in the edition v
@@ -94,11 +94,10 @@ module _ (v : Edition) (s : List ℕ) (h : Sheet s) (d : Has v s) where
 
   library_is_in : library_of (in_edition v s) ≡ library_in v (library_of s)
   library_is_in =
-      let n = entries_in v s in
       let w = edition_is_in v s (long s h) in
-      let k : (library_of (in_edition v s)).kinds ≡ (library_of s).kinds = rw (n, behind_in v s 0) refl in
-      let t : (library_of (in_edition v s)).settings ≡ (library_of s).settings = rw (n, behind_in v s (entries_of s)) refl in
-      λ i. record { n = n i; edition = w i; kinds = k i; settings = t i }
+      let t : (library_of (in_edition v s)).entries.items ≡ (library_of s).entries.items =
+      rw entries_in (table_ext (entries_of s) (stored_in (in_edition v s)) (stored_in s) (λ e l. stored_is_in v s e)) in
+      λ i. record { edition = w i; entries = record { items = t i } }
 
   as_write : (out : List ℕ) → AsWrite v s out (library_of (in_edition v s))
   as_write out = go (below (length out) (length s))
@@ -112,21 +111,21 @@ module _ (v : Edition) (s : List ℕ) (h : Sheet s) (d : Has v s) where
           let l = length_in v s in
           let k = f.long in
           let q = write_short (entries_of (in_edition v s)) (length out) f.some f.most (omega arith) in
-          record { answer = rw (z, ← q) refl; bytes = rw (z, ← q) (sym (over_none 0 out)) }
+          record { number = rw (z, count_in, ← q) refl; answer = sym l ∙ k ∙ rw count_in refl; bytes = rw (z, count_in, ← q) refl }
       go (inr r) =
           let l = length_in v s in
           let w = writes v s out h d r in
           let q = rewritten (in_edition v s) is_in out (omega arith) in
-          record { answer = w.answer ∙ sym q.answer; bytes = w.bytes ∙ sym q.bytes }
+          record { number = w.accepted ∙ sym q.accepted; answer = w.answer ∙ sym q.answer; bytes = w.bytes ∙ sym q.bytes }
 
 -- ---- all of them
 
 -- the first bytes of what was written are the sheet
 is_written : {v : Edition} {s out t : List ℕ} → Writes v s out t → written_sheet v s out ≡ t
 is_written {v} {s} {out} {t} w =
-    ap (λ (r : Written). take r.length (converted_of v s out)) w.answer ∙ ap (take (length t)) w.bytes ∙ take-append_seam t (drop (length t) out)
+    ap (λ (k : ℕ). take k (converted_of v s out)) w.answer ∙ ap (take (length t)) w.bytes ∙ take-append_seam t (drop (length t) out)
 
-pub accepted_converted : (v : Edition) (s out : List ℕ) → (convert_of v s out).number ≡ 0 → Converted v s out (written_sheet v s out)
+pub accepted_converted : (v : Edition) (s out : List ℕ) → convert_number v s out ≡ 0 → Converted v s out (written_sheet v s out)
 accepted_converted v s out z =
     let t = taken v s (length out) z in
     let m = made v s t.sheet t.has out t.room in

@@ -15,7 +15,8 @@ use Rattle.sheets.specs.declared.edition.Edition.{Edition}
 use Rattle.sheets.specs.declared.edition.Edition.TheVariants.{One, Two}
 use Rattle.sheets.specs.declared.entry.Entry.{Entry}
 use Rattle.sheets.proofs.Checks.{edition_named, edition_of_byte, edition_back}
-use Rattle.sheets.proofs.Editions.{same_setting, same_entry}
+use Rattle.sheets.proofs.Editions.{same_kind, same_setting, same_entry}
+use Rattle.library.specs.Library.{stored_in}
 use Rattle.conversion.specs.Rows.{UsesSeries}
 use Rattle.conversion.specs.Converted.{in_edition}
 use Rattle.conversion.proofs.Rows.{two_is_not_one, Has}
@@ -71,6 +72,12 @@ module _ (v : Edition) (s : List ℕ) where
 
   pub setting_is_in : (e : ℕ) → setting_at new e ≡ setting_at s e
   setting_is_in e = rw entries_in (same_setting (entries_of s) new s (behind_in 0) e)
+
+  pub stored_is_in : (e : ℕ) → stored_in new e ≡ stored_in s e
+  stored_is_in e =
+      let k = same_kind (entries_of s) new s (behind_in 0) e in
+      let t = setting_is_in e in
+      λ i. record { kind = k i; setting = t i }
 
   pub entry_is_in : (e : ℕ) → entry_in new e ≡ entry_in s e
   entry_is_in e = rw entries_in (same_entry (entries_of s) new s (behind_in 0) e)

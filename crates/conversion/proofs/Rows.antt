@@ -4,7 +4,7 @@ use mathlib.Core.Path.{◌≡◌, refl, sym, ◌∙◌}
 use mathlib.Core.List.{List, [], ◌∷◌}
 use mathlib.Core.Logic.{◌⊎◌, inl, inr, ⊎_elim}
 use native.Mathlib.Omega.{arith}
-use borrow.Author.Tests.{eqb-true, eqb-false, eq-eqb, ne_eqb, ltb-true, ltb-false}
+use borrow.Author.Tests.{eqb-true, eqb-false, eq-eqb, ltb-true, ltb-false}
 use lib.Dec.{eqb, ltb}
 use lib.ListN.{length}
 use Rattle.filter_core.specs.Rows.{◌then◌, First, none, here, later}
@@ -152,6 +152,5 @@ pub convert_by_rows : (v : Edition) (s out : List ℕ) → ConvertAnswer v s out
 convert_by_rows v s out =
     record {
       number = record { is = convert_row v s (length out); only = λ r p. convert_only v s (length out) p };
-      accepted = λ z. rw z (taken v s (length out) z).sheet.size.fits.long;
-      refused = λ z. rw (ne_eqb (convert_refusal v s (length out)) 0 z) refl;
+      answer = λ z. (taken v s (length out) z).sheet.size.fits.long;
     }

@@ -9,7 +9,6 @@ use Rattle.sheets.specs.Refusal.{first_refusal}
 use Rattle.sheets.specs.Sheet.{entries_of, kind_at, check_of}
 use Rattle.sheets.specs.declared.edition.Edition.{Edition}
 use Rattle.sheets.specs.declared.edition.Edition.TheVariants.{One, Two}
-use Rattle.library.specs.declared.Written.{Written}
 
 -- ---- the refusals
 
@@ -30,16 +29,16 @@ wanted_refusal Two s = 0
 abbrev pub convert_refusal : Edition → List ℕ → ℕ → ℕ
 convert_refusal v s m = check_of s then wanted_refusal v s then room_refusal (length s) m
 
--- ---- the answer, and the output as it is left
+-- ---- the answer, which is the sheet's length, and the output as it is left
 
 -- the sheet over the output, and the byte of the edition v over its second place
 abbrev pub put_over : Edition → List ℕ → List ℕ → List ℕ
 put_over v s out = over 1 (edition_byte v ∷ []) (over 0 s out)
 
--- a refused call answers the length 0
-abbrev pub convert_of : Edition → List ℕ → List ℕ → Written
-convert_of v s out = record { number = convert_refusal v s (length out); length = unless_refused (convert_refusal v s (length out)) 0 (length s) }
+-- the number that a conversion of s to the edition v answers, for the output
+abbrev pub convert_number : Edition → List ℕ → List ℕ → ℕ
+convert_number v s out = convert_refusal v s (length out)
 
--- and leaves the output as it was
+-- a refused one leaves the output as it was
 abbrev pub converted_of : Edition → List ℕ → List ℕ → List ℕ
 converted_of v s out = unless_refused (convert_refusal v s (length out)) out (put_over v s out)

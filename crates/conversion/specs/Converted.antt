@@ -7,9 +7,9 @@ use Rattle.sheets.specs.EditionOne.{check_one, check_entry_one, lookup_one}
 use Rattle.sheets.specs.Rows.{Sheet}
 use Rattle.sheets.specs.declared.edition.Edition.{Edition}
 use Rattle.sheets.specs.declared.edition.Edition.TheVariants.{One, Two}
-use Rattle.library.specs.Library.{library_of, write_of, written_of}
+use Rattle.library.specs.Library.{library_of, write_number, sheet_length, written_of}
 use Rattle.library.specs.declared.Library.{Library}
-use Rattle.conversion.specs.Conversion.{convert_of, converted_of}
+use Rattle.conversion.specs.Conversion.{convert_number, converted_of}
 use Rattle.conversion.specs.Rows.{UsesSeries, ConvertCase}
 
 -- the sheet s with the second byte of the edition v
@@ -18,11 +18,12 @@ in_edition v s = set s 1 (edition_byte v)
 
 -- the sheet that a conversion wrote: as many bytes of the output as it answers
 abbrev pub written_sheet : Edition → List ℕ → List ℕ → List ℕ
-written_sheet v s out = take (convert_of v s out).length (converted_of v s out)
+written_sheet v s out = take (length s) (converted_of v s out)
 
 -- the conversion of s to the edition v writes t, all of it, and leaves what stood behind
 pub record Writes (v : Edition) (s out t : List ℕ) : Type 0 where
-  pub answer : convert_of v s out ≡ record { number = 0; length = length t }
+  pub accepted : convert_number v s out ≡ 0
+  pub answer : length s ≡ length t
   pub bytes : converted_of v s out ≡ t ++ drop (length t) out
 
 -- t has the entries of s, under the same numbers
@@ -49,23 +50,24 @@ pub record Converted (v : Edition) (s out t : List ℕ) : Type 0 where
 
 -- the library l as one of the edition v
 abbrev pub library_in : Edition → Library → Library
-library_in v l = record { n = l.n; edition = v; kinds = l.kinds; settings = l.settings }
+library_in v l = record { edition = v; entries = l.entries }
 
 -- what converting s does is what writing the library l does
 pub record AsWrite (v : Edition) (s out : List ℕ) (l : Library) : Type 0 where
-  pub answer : convert_of v s out ≡ write_of l out
+  pub number : convert_number v s out ≡ write_number l out
+  pub answer : length s ≡ sheet_length l
   pub bytes : converted_of v s out ≡ written_of l out
 
 pub record Conversions : Type 0 where
-  pub accepted : (v : Edition) (s out : List ℕ) → (convert_of v s out).number ≡ 0 → Converted v s out (written_sheet v s out)
+  pub accepted : (v : Edition) (s out : List ℕ) → convert_number v s out ≡ 0 → Converted v s out (written_sheet v s out)
   -- a refused one leaves every byte
-  pub refused : (v : Edition) (s out : List ℕ) → ((convert_of v s out).number ≡ 0 → ⊥) → converted_of v s out ≡ out
+  pub refused : (v : Edition) (s out : List ℕ) → (convert_number v s out ≡ 0 → ⊥) → converted_of v s out ≡ out
   -- a sheet to edition 2: 12 is its only refusal
-  pub up : (s out : List ℕ) → Sheet s → Exactly (ConvertCase Two s (length out)) (12 ∷ []) (convert_of Two s out).number
+  pub up : (s out : List ℕ) → Sheet s → Exactly (ConvertCase Two s (length out)) (12 ∷ []) (convert_number Two s out)
   -- a sheet to edition 1: 15 and 12 are, and 15 is given exactly where an entry uses approximation 4
-  pub down : (s out : List ℕ) → Sheet s → Exactly (ConvertCase One s (length out)) (15 ∷ 12 ∷ []) (convert_of One s out).number
-  pub series : (s out : List ℕ) → Sheet s → ((convert_of One s out).number ≡ 15 → UsesSeries s) × (UsesSeries s → (convert_of One s out).number ≡ 15)
+  pub down : (s out : List ℕ) → Sheet s → Exactly (ConvertCase One s (length out)) (15 ∷ 12 ∷ []) (convert_number One s out)
+  pub series : (s out : List ℕ) → Sheet s → (convert_number One s out ≡ 15 → UsesSeries s) × (UsesSeries s → convert_number One s out ≡ 15)
   -- a sheet that is in the wanted edition already is copied
   pub copied : (s out : List ℕ) → Sheet s → length s ≤ length out → Writes (edition_in s) s out s
   -- an answer other than 15 is that of write, and so is the output, where the library has the wanted edition
-  pub as_write : (v : Edition) (s out : List ℕ) → Sheet s → ((convert_of v s out).number ≡ 15 → ⊥) → AsWrite v s out (library_in v (library_of s))
+  pub as_write : (v : Edition) (s out : List ℕ) → Sheet s → (convert_number v s out ≡ 15 → ⊥) → AsWrite v s out (library_in v (library_of s))

@@ -1,87 +1,69 @@
 // The converter (02 f): a sheet of either edition as a sheet of the one that is wanted. It needs no frame, and touches none.
 #![tactic(auto)]
 
-ghost use Rattle.std.specs.Prelude.{◌≡◌};
-ghost use Rattle.filter_core.specs.Refusal.{unless_refused};
-ghost use Rattle.conversion.specs.Conversion.{series_refusal, series_among, wanted_refusal, convert_refusal, put_over, convert_of, converted_of};
+ghost use Rattle.std.specs.Prelude.{◌≡◌, length, IfOk};
+ghost use Rattle.filter_core.specs.Refusal.{number_in};
+ghost use Rattle.conversion.specs.Conversion.{series_refusal, series_among, wanted_refusal, put_over, convert_number, converted_of};
 ghost use Rattle.conversion.specs.Rows.{ConvertByRows};
 ghost use Rattle.conversion.specs.Converted.{Conversions};
 
-use library::Written;
+use filter_core::Refusal;
 use sheets::Edition;
 
 // ---- the refusals
 
 // A kind byte's high half is the approximation.
-fn series_refusal(kind: u8) -> u8
-    ensures { result ≡ series_refusal kind }
+fn check_series(kind: u8) -> Result<(), Refusal>
+    ensures { number_in result ≡ series_refusal kind }
 {
-    if kind / 16 == 4 { 15 } else { 0 }
-}
-
-fn series_among(n: usize, sheet: &[u8]) -> u8
-    ensures { result ≡ series_among n sheet.now }
-{
-    let mut e = 0;
-    while e < n {
-        let series = series_refusal(words::byte_at(sheet, 2, e));
-        if series != 0 {
-            return series;
-        }
-        e += 1;
+    if kind / 16 == 4 {
+        Err(Refusal::Series)
+    } else {
+        Ok(())
     }
-    0
 }
 
-fn wanted_refusal(wanted: Edition, sheet: &[u8]) -> u8
-    ensures { result ≡ wanted_refusal wanted sheet.now }
+#[tactic(auto, using(sheets::proofs::Checks::first_start, sheets::proofs::Checks::first_again, sheets::proofs::Checks::first_refused))]
+fn check_series_among(n: usize, sheet: &[u8]) -> Result<(), Refusal>
+    ensures { number_in result ≡ series_among n sheet.now }
+{
+    for e in 0..n {
+        check_series(words::byte_at(sheet, 2, e))?;
+    }
+    Ok(())
+}
+
+fn check_wanted(wanted: Edition, sheet: &[u8]) -> Result<(), Refusal>
+    ensures { number_in result ≡ wanted_refusal wanted sheet.now }
 {
     match wanted {
-        Edition::One => series_among(sheets::entries(sheet), sheet),
-        Edition::Two => 0,
+        Edition::One => check_series_among(sheets::entries(sheet), sheet),
+        Edition::Two => Ok(()),
     }
-}
-
-fn convert_refusal(wanted: Edition, sheet: &[u8], room: usize) -> u8
-    ensures { result ≡ convert_refusal wanted sheet.now room }
-{
-    let open = sheets::check(sheet);
-    let series = wanted_refusal(wanted, sheet);
-    let short = lists::room_refusal(sheet.len(), room);
-    filter_core::then(open, filter_core::then(series, short))
 }
 
 // ---- the converter
 
-// The sheet, and then the edition's byte over its second place; nothing where the call is refused.
-fn put_sheet(number: u8, wanted: Edition, sheet: &[u8], output: &mut [u8])
-    ensures { output.new ≡ unless_refused number output.old (put_over wanted sheet.now output.old) }
+// The sheet, and then the edition's byte over its second place.
+fn put_sheet(wanted: Edition, sheet: &[u8], output: &mut [u8])
+    ensures { output.new ≡ put_over wanted sheet.now output.old }
 {
-    if number != 0 {
-        return;
-    }
     lists::copy(sheet, output, 0);
-    lists::copy(&[sheets::edition_byte(wanted)], output, 1);
+    lists::copy(&[u8::from(wanted)], output, 1);
 }
 
-fn length_for(number: u8, length: usize) -> usize
-    ensures { result ≡ unless_refused number 0 length }
-{
-    if number == 0 { length } else { 0 }
-}
-
-// Writes the sheet in the wanted edition, and answers as `library::write` does: the number and the length, which is 0 where the call is
-// refused. A sheet that is in that edition already is copied. Places behind the sheet keep their contents.
-pub fn convert(wanted: Edition, sheet: &[u8], output: &mut [u8]) -> Written
-    ensures value { result ≡ convert_of wanted sheet.now output.old }
+// Writes the sheet in the wanted edition, and answers its length, as `library::write` does; a refused call leaves every byte. A sheet that is
+// in that edition already is copied. Places behind the sheet keep their contents.
+pub fn convert(wanted: Edition, sheet: &[u8], output: &mut [u8]) -> Result<usize, Refusal>
+    ensures refusal { number_in result ≡ convert_number wanted sheet.now output.old }
+    ensures answer { IfOk result (λ answer. answer ≡ length sheet.now) }
     ensures output_after { output.new ≡ converted_of wanted sheet.now output.old }
 {
-    let number = convert_refusal(wanted, sheet, output.len());
-    put_sheet(number, wanted, sheet, output);
-    Written {
-        number: number,
-        length: length_for(number, sheet.len()),
-    }
+    sheets::check(sheet)?;
+    check_wanted(wanted, sheet)?;
+    lists::check_room(sheet.len(), output.len())?;
+    put_sheet(wanted, sheet, output);
+    Ok(sheet.len())
 }
 
 // ---- the theorems
@@ -92,6 +74,7 @@ pub fn convert_by_rows()
 {}
 
 // What a conversion makes of a sheet, what it leaves of the output, and that it can be undone.
+#[tactic(auto, using(crate::proofs::Converted::conversions))]
 pub fn conversions()
     ensures { Conversions }
 {}

@@ -2,14 +2,26 @@
 #![tactic(auto)]
 
 ghost use Rattle.std.specs.Prelude.{◌≡◌, ◌+◌, ◌*◌, ◌≤◌, ◌<◌, length, take, drop};
-ghost use Rattle.filter_core.specs.Refusal.{unless_refused};
+ghost use Rattle.filter_core.specs.Refusal.{number_in, unless_refused};
 ghost use Rattle.sheets.specs.Sheet.{entries_of, check_of, check_entry_of, lookup_of};
+
+use filter_core::Refusal;
+
+// The number that C gets, 0 where the call is accepted.
+fn number_in(checked: Result<(), Refusal>) -> u8
+    ensures { result ≡ number_in checked }
+{
+    match checked {
+        Ok(()) => 0,
+        Err(refusal) => u8::from(refusal),
+    }
+}
 
 // The number that opening the sheet gives, 0 if it is a sheet.
 pub fn sheet_check(sheet: &[u8]) -> u8
     ensures { result ≡ check_of sheet.now }
 {
-    sheets::check(sheet)
+    number_in(sheets::check(sheet))
 }
 
 fn setting_place(n: usize, e: usize) -> usize
@@ -27,9 +39,9 @@ pub fn sheet_lookup(sheet: &[u8], e: usize, place: &mut usize) -> u8
         ≡ unless_refused (check_entry_of sheet.now e) place.old (2 + entries_of sheet.now + 12 * e) }
     ensures sheet_after { take (length (lookup_of sheet.now e)) (drop place.new sheet.now) ≡ lookup_of sheet.now e }
 {
-    let number = sheets::check_entry(sheet, e);
-    if number == 0 {
+    let checked = sheets::check_entry(sheet, e);
+    if checked.is_ok() {
         *place = setting_place(sheets::entries(sheet), e);
     }
-    number
+    number_in(checked)
 }

@@ -78,7 +78,7 @@ module _ (s : List ℕ) where
 
 -- an entry is read off n and what stands behind the two bytes
 module _ (n : ℕ) (s t : List ℕ) (h : drop 2 s ≡ drop 2 t) (e : ℕ) where
-  same_kind : kind_at s e ≡ kind_at t e
+  pub same_kind : kind_at s e ≡ kind_at t e
   same_kind = sym (get_or-drop 2 s e 0) ∙ ap (λ (x : List ℕ). get_or x e 0) h ∙ get_or-drop 2 t e 0
 
   pub same_setting : setting_behind n s e ≡ setting_behind n t e
