@@ -1,4 +1,0 @@
-pub mod Names
-pub mod Splits
-pub mod Fields
-pub mod Forms
