@@ -1,12 +1,11 @@
 -- The first place that passes a test is the place of the first member that passes it. Assumes nothing.
-use Prim.Native.Nat.{ℕ, zero, suc, ◌+◌, ◌-◌, ◌<◌}
+use Prim.Native.Nat.{ℕ, zero, suc, ◌+◌, ◌<◌}
 use mathlib.Core.Path.{◌≡◌, refl}
 use mathlib.Core.Bool.{Bool, true, false}
 use mathlib.Core.List.{List, [], ◌∷◌}
 use native.Mathlib.Nat.{add-zero}
 use native.Mathlib.Omega.{arith}
-use lib.ListN.{length, get_or, take, drop, length-drop}
-use lib.Seq.{take_all}
+use lib.ListN.{length, get_or}
 use Rattle.std.specs.Prelude.{Some, None}
 use Rattle.std.specs.List.{position_from}
 
@@ -27,6 +26,3 @@ module _ (p : ℕ → Bool) where
   pub first_nowhere : (i : ℕ) (s : List ℕ) → ((j : ℕ) → j < length s → p (get_or s j 0) ≡ true → ⊥) → None ≡ position_from p i s
   first_nowhere i [] n = refl
   first_nowhere i (x ∷ s) n = rw (fails (p x) (n 0 (omega arith))) (first_nowhere (i + 1) s (λ j h. n (suc j) (omega arith)))
-
-pub rest_is : (from : ℕ) (s : List ℕ) → take (length s - from) (drop from s) ≡ drop from s
-rest_is from s = let d = length-drop from s in take_all (length s - from) (drop from s) (omega arith)

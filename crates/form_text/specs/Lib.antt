@@ -1,0 +1,3 @@
+pub mod Name
+pub mod Field
+pub mod Form
