@@ -1,20 +1,19 @@
 -- BYTES and SAMPLES of the text of calls.
-use Rattle.std.specs.Prelude.{ℕ, ◌%◌, Bool, true, false, cond, List, eqb, ltb, length}
+use Rattle.std.specs.Prelude.{ℕ, ◌%◌, Bool, false, cond, List, Option, Some, None, eqb, ltb, length, bytes_eq, codes}
 use Rattle.digits.specs.Hex.{all_hex}
-use Rattle.form_text.specs.Name.{ascii, same_text}
 
 -- 1 to 8,192 hexadecimal digits
-unfoldable pub hex_run : List ℕ → Bool
+abbrev pub hex_run : List ℕ → Bool
 hex_run s = cond (ltb (length s) 1) false (cond (ltb 8192 (length s)) false (all_hex s))
 
--- `-`, or digits that make whole units
-unfoldable pub hex_field : List ℕ → Bool → Bool
-hex_field s whole = cond (same_text s (ascii "-")) true (cond whole (hex_run s) false)
+-- the field where it is `-`, or digits that make whole units
+abbrev pub hex_field : List ℕ → Bool → Option (List ℕ)
+hex_field s whole = cond (bytes_eq s (codes "-")) (Some s) (cond whole (cond (hex_run s) (Some s) None) None)
 
 -- BYTES
-abbrev pub bytes_field : List ℕ → Bool
+abbrev pub bytes_field : List ℕ → Option (List ℕ)
 bytes_field s = hex_field s (eqb (length s % 2) 0)
 
 -- SAMPLES
-abbrev pub samples_field : List ℕ → Bool
+abbrev pub samples_field : List ℕ → Option (List ℕ)
 samples_field s = hex_field s (eqb (length s % 8) 0)

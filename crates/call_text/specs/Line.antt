@@ -1,99 +1,119 @@
 -- A whole line of the text of calls.
-use Rattle.std.specs.Prelude.{ℕ, cond, List, eqb, ltb, length, get_or}
-use Rattle.runs.specs.declared.RunForm.{RunForm}
-use Rattle.sheets.specs.declared.edition.Edition as sheets
+use Rattle.std.specs.Prelude.{ℕ, cond, List, [], ◌∷◌, Option, Some, None, Result, Ok, Err, eqb, ltb, length, get_or, option_map}
+use Rattle.std.proofs.Common.{Bor}
 use Rattle.digits.specs.Decimal.{number_of}
-use Rattle.form_text.specs.Part.{parts_of, text_of}
-use Rattle.form_text.specs.Field.{if_number, if_count}
+use Rattle.form_text.specs.Field.{fields_of, of_two, of_three, of_four, of_five}
 use Rattle.form_text.specs.Form.{form_of}
-use Rattle.form_text.specs.declared.part.Part.{Part}
-use Rattle.form_text.specs.declared.part.Parts.{Parts}
-use Rattle.form_text.specs.declared.form.ReadForm.{ReadForm}
-use Rattle.form_text.specs.declared.form.ReadForm.TheVariants.{Form, NoForm}
 use Rattle.call_text.specs.Buffer.{bytes_field, samples_field}
-use Rattle.call_text.specs.Edition.{edition_word}
-use Rattle.call_text.specs.Keyword.{keyword_of, shape_of}
+use Rattle.call_text.specs.Edition.{edition_of}
+use Rattle.call_text.specs.Keyword.{keyword_of}
+use Rattle.call_text.specs.declared.keyword.Keyword.{Keyword}
+use Rattle.call_text.specs.declared.keyword.Keyword.TheVariants as keyword
 use Rattle.call_text.specs.declared.line.Call.{Call}
-use Rattle.call_text.specs.declared.line.Call.TheVariants.{Silent, BadLine, OfHead, OfHeadNumber, OfBytes, OfBytesNumber, OfConvert, OfRun, OfTwo}
-use Rattle.call_text.specs.declared.edition.ReadEdition.{ReadEdition}
-use Rattle.call_text.specs.declared.edition.ReadEdition.TheVariants.{Edition, NoEdition}
-use Rattle.call_text.specs.declared.keyword.Shape.{Shape}
-use Rattle.call_text.specs.declared.keyword.Shape.TheVariants.{Head, HeadNumber, Bytes, BytesNumber, Convert, Run, Two, NoShape}
+use Rattle.call_text.specs.declared.line.Call.TheVariants.{Open, Load, Run, Two, Rest, Mark, Back, Drop, Write, Check, Lookup, Head, Check1, Lookup1, Convert, Count}
+use Rattle.call_text.specs.declared.line.BadLine.{BadLine}
+use Rattle.call_text.specs.declared.line.BadLine.TheVariants.{NoCall, Words}
 
--- there are n parts, the keyword among them
-abbrev pub of_parts : ℕ → ℕ → Call → Call
-of_parts count n call = if_count count n call BadLine
-
-abbrev pub with_number : List ℕ → Part → (ℕ → Call) → Call
-with_number s p call = if_number (number_of (text_of s p)) call BadLine
-
-abbrev pub if_form : ReadForm → (RunForm → Call) → Call
-if_form (Form f) call = call f
-if_form NoForm call = BadLine
-
-abbrev pub with_form : List ℕ → Part → (RunForm → Call) → Call
-with_form s p call = if_form (form_of (text_of s p)) call
-
-abbrev pub if_edition : ReadEdition → (sheets.Edition → Call) → Call
-if_edition (Edition v) call = call v
-if_edition NoEdition call = BadLine
-
-abbrev pub with_edition : List ℕ → Part → (sheets.Edition → Call) → Call
-with_edition s p call = if_edition (edition_word (text_of s p)) call
-
-abbrev pub with_bytes : List ℕ → Part → Call → Call
-with_bytes s p call = cond (bytes_field (text_of s p)) call BadLine
-
-abbrev pub with_samples : List ℕ → Part → Call → Call
-with_samples s p call = cond (samples_field (text_of s p)) call BadLine
+-- a call by the texts of its buffers and sheets
+abbrev pub CallOf : Type 0
+CallOf = Call (List ℕ)
 
 -- HEAD
-unfoldable pub head_call : ℕ → List ℕ → ℕ → Part → Call
-head_call keyword s count b = of_parts count 2 (with_number s b (λ head. OfHead keyword head))
+abbrev pub one_number : List (List ℕ) → Option ℕ
+one_number (h ∷ []) = number_of h
+one_number _ = None
 
 -- HEAD ENTRY, HEAD MARK
-unfoldable pub head_number_call : ℕ → List ℕ → ℕ → Part → Part → Call
-head_number_call keyword s count b c = of_parts count 3 (with_number s b (λ head. with_number s c (λ number. OfHeadNumber keyword head number)))
+abbrev pub two_numbers : List (List ℕ) → Option (ℕ × ℕ)
+two_numbers (h ∷ n ∷ []) = of_two (λ h n. (h, n)) (number_of h) (number_of n)
+two_numbers _ = None
 
 -- BYTES
-unfoldable pub bytes_call : ℕ → List ℕ → ℕ → Part → Call
-bytes_call keyword s count b = of_parts count 2 (with_bytes s b (OfBytes keyword b))
+abbrev pub one_buffer : List (List ℕ) → Option (List ℕ)
+one_buffer (b ∷ []) = bytes_field b
+one_buffer _ = None
 
 -- BYTES ENTRY
-unfoldable pub bytes_number_call : ℕ → List ℕ → ℕ → Part → Part → Call
-bytes_number_call keyword s count b c = of_parts count 3 (with_number s c (λ number. with_bytes s b (OfBytesNumber keyword b number)))
+abbrev pub buffer_and_number : List (List ℕ) → Option (List ℕ × ℕ)
+buffer_and_number (b ∷ n ∷ []) = of_two (λ b n. (b, n)) (bytes_field b) (number_of n)
+buffer_and_number _ = None
 
 -- EDITION BYTES BYTES
-unfoldable pub convert_call : List ℕ → ℕ → Part → Part → Part → Call
-convert_call s count b c d = of_parts count 4 (with_edition s b (λ v. with_bytes s c (with_bytes s d (OfConvert v c d))))
+abbrev pub convert_call : List (List ℕ) → Option CallOf
+convert_call (v ∷ s ∷ o ∷ []) = of_three Convert (edition_of v) (bytes_field s) (bytes_field o)
+convert_call _ = None
 
 -- HEAD FORM IN OUT
-unfoldable pub run_call : List ℕ → ℕ → Part → Part → Part → Part → Call
-run_call s count b c d e =
-    of_parts count 5 (with_number s b (λ head. with_form s c (λ form. with_samples s d (with_samples s e (OfRun head form d e)))))
+abbrev pub run_call : List (List ℕ) → Option CallOf
+run_call (h ∷ f ∷ i ∷ o ∷ []) = of_four Run (number_of h) (form_of f) (samples_field i) (samples_field o)
+run_call _ = None
 
 -- HEAD FORM IN OUT1 OUT2
-unfoldable pub two_call : List ℕ → ℕ → Part → Part → Part → Part → Part → Call
-two_call s count b c d e f =
-    of_parts count 6
-    (with_number s b (λ head. with_form s c (λ form. with_samples s d (with_samples s e (with_samples s f (OfTwo head form d e f))))))
+abbrev pub two_call : List (List ℕ) → Option CallOf
+two_call (h ∷ f ∷ i ∷ o ∷ p ∷ []) = of_five Two (number_of h) (form_of f) (samples_field i) (samples_field o) (samples_field p)
+two_call _ = None
 
-abbrev pub call_of_shape : Shape → ℕ → List ℕ → Parts → Call
-call_of_shape Head keyword s p = head_call keyword s p.count p.b
-call_of_shape HeadNumber keyword s p = head_number_call keyword s p.count p.b p.c
-call_of_shape Bytes keyword s p = bytes_call keyword s p.count p.b
-call_of_shape BytesNumber keyword s p = bytes_number_call keyword s p.count p.b p.c
-call_of_shape Convert keyword s p = convert_call s p.count p.b p.c p.d
-call_of_shape Run keyword s p = run_call s p.count p.b p.c p.d p.e
-call_of_shape Two keyword s p = two_call s p.count p.b p.c p.d p.e p.f
-call_of_shape NoShape keyword s p = BadLine
+abbrev pub paired : {A B : Type 0} → (A → B → CallOf) → A × B → CallOf
+paired call p = call p.0 p.1
 
-unfoldable pub call_for : ℕ → List ℕ → Parts → Call
-call_for keyword s p = call_of_shape (shape_of keyword) keyword s p
+-- what the fields behind a keyword make
+abbrev pub call_for : Keyword → List (List ℕ) → Option CallOf
+call_for keyword.Open fields = option_map Open (one_buffer fields)
+call_for keyword.Load fields = option_map (paired Load) (two_numbers fields)
+call_for keyword.Run fields = run_call fields
+call_for keyword.Two fields = two_call fields
+call_for keyword.Rest fields = option_map Rest (one_number fields)
+call_for keyword.Mark fields = option_map Mark (one_number fields)
+call_for keyword.Back fields = option_map (paired Back) (two_numbers fields)
+call_for keyword.Drop fields = option_map (paired Drop) (two_numbers fields)
+call_for keyword.Write fields = option_map Write (one_buffer fields)
+call_for keyword.Check fields = option_map (paired Check) (buffer_and_number fields)
+call_for keyword.Lookup fields = option_map (paired Lookup) (buffer_and_number fields)
+call_for keyword.Head fields = option_map Head (one_number fields)
+call_for keyword.Check1 fields = option_map (paired Check1) (buffer_and_number fields)
+call_for keyword.Lookup1 fields = option_map (paired Lookup1) (buffer_and_number fields)
+call_for keyword.Convert fields = convert_call fields
+call_for keyword.Count fields = option_map Count (one_number fields)
 
-abbrev pub call_in : List ℕ → Parts → Call
-call_in s p = call_for (keyword_of (text_of s p.a)) s p
+-- an answer of `call_of`: none for a silent line
+abbrev pub Answer : Type 0 → Type 0
+Answer B = Result (Option (Call B)) BadLine
+
+abbrev pub with_keyword : Option Keyword → List (List ℕ) → Answer (List ℕ)
+with_keyword None fields = Err NoCall
+with_keyword (Some k) fields = elim (call_for k fields) [ None ↦ Err Words | Some call ↦ Ok (Some call) ]
+
+abbrev pub call_in : List (List ℕ) → Answer (List ℕ)
+call_in [] = Err NoCall
+call_in (word ∷ fields) = with_keyword (keyword_of word) fields
 
 -- an empty line and a comment are silent; 35 is `#`, 32 the space
-unfoldable pub call_of : List ℕ → Call
-call_of s = cond (ltb (length s) 1) Silent (cond (eqb (get_or s 0 0) 35) Silent (call_in s (parts_of s 32)))
+abbrev pub call_of : List ℕ → Answer (List ℕ)
+call_of s = cond (ltb (length s) 1) (Ok None) (cond (eqb (get_or s 0 0) 35) (Ok None) (call_in (fields_of 32 s)))
+
+-- ---- the texts of what is lent
+
+abbrev pub text_pair : Bor (List ℕ) × ℕ → List ℕ × ℕ
+text_pair p = (p.0.now, p.1)
+
+abbrev pub text_call : Call (Bor (List ℕ)) → CallOf
+text_call (Open s) = Open s.now
+text_call (Load h e) = Load h e
+text_call (Run h f i o) = Run h f i.now o.now
+text_call (Two h f i o p) = Two h f i.now o.now p.now
+text_call (Rest h) = Rest h
+text_call (Mark h) = Mark h
+text_call (Back h m) = Back h m
+text_call (Drop h m) = Drop h m
+text_call (Write o) = Write o.now
+text_call (Check s e) = Check s.now e
+text_call (Lookup s e) = Lookup s.now e
+text_call (Head h) = Head h
+text_call (Check1 s e) = Check1 s.now e
+text_call (Lookup1 s e) = Lookup1 s.now e
+text_call (Convert v s o) = Convert v s.now o.now
+text_call (Count h) = Count h
+
+abbrev pub text_answer : Answer (Bor (List ℕ)) → Answer (List ℕ)
+text_answer (Ok call) = Ok (option_map text_call call)
+text_answer (Err why) = Err why

@@ -4,7 +4,8 @@
 
 mod buffer;
 mod edition;
-pub mod keyword;
+mod keyword;
 mod line;
 
-pub use line::{Call, call_of};
+pub use keyword::{Keyword, keyword_of};
+pub use line::{BadLine, Call, call_of};

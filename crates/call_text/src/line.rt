@@ -1,180 +1,226 @@
 // A whole line.
 
-ghost use Rattle.std.specs.Prelude.{◌≡◌};
-ghost use Rattle.call_text.specs.Line.{head_call, head_number_call, bytes_call, bytes_number_call, convert_call, run_call, two_call, call_for, call_of};
+ghost use Rattle.std.specs.Prelude.{◌≡◌, option_map, option_copied};
+ghost use Rattle.form_text.specs.Field.{fields_left};
+ghost use Rattle.call_text.specs.Line.{one_number, two_numbers, one_buffer, buffer_and_number, convert_call, run_call, two_call, call_for, call_of, text_pair, text_call, text_answer};
 
-use crate::buffer::{is_bytes, is_samples};
-use crate::edition::{ReadEdition, edition_word};
-use crate::keyword::{Shape, number_of, shape_of};
-use digits::Number;
-use form_text::{Part, Parts, ReadForm, form_of, split, text};
+use crate::buffer::{bytes_field, samples_field};
+use crate::edition::edition_of;
+use crate::keyword::{Keyword, keyword_of};
+use digits::number_of;
+use form_text::{Fields, form_of};
 use runs::RunForm;
 use sheets::Edition;
 
-// What a line asks for, by what stands behind its keyword; the keyword's number comes first. A buffer or a sheet is the part of the line
-// that has its text: `digits::samples` and `digits::bytes` read it.
+// What a line asks for. A buffer or a sheet, of the type B, is the field that has its text: `digits::samples` and `digits::bytes` read it.
 #[derive(Clone, Copy)]
-pub enum Call {
-    // An empty line or a comment: it gets no answer.
-    Silent,
-    BadLine,
-    OfHead(usize, usize),
-    OfHeadNumber(usize, usize, usize),
-    OfBytes(usize, Part),
-    OfBytesNumber(usize, Part, usize),
-    OfConvert(Edition, Part, Part),
-    OfRun(usize, RunForm, Part, Part),
-    OfTwo(usize, RunForm, Part, Part, Part),
+pub enum Call<B> {
+    Open(B),
+    Load {
+        head: usize,
+        entry: usize,
+    },
+    Run {
+        head: usize,
+        form: RunForm,
+        input: B,
+        output: B,
+    },
+    Two {
+        head: usize,
+        form: RunForm,
+        input: B,
+        first: B,
+        second: B,
+    },
+    Rest(usize),
+    Mark(usize),
+    Back {
+        head: usize,
+        mark: usize,
+    },
+    Drop {
+        head: usize,
+        mark: usize,
+    },
+    Write(B),
+    Check {
+        sheet: B,
+        entry: usize,
+    },
+    Lookup {
+        sheet: B,
+        entry: usize,
+    },
+    Head(usize),
+    Check1 {
+        sheet: B,
+        entry: usize,
+    },
+    Lookup1 {
+        sheet: B,
+        entry: usize,
+    },
+    Convert {
+        wanted: Edition,
+        sheet: B,
+        output: B,
+    },
+    Count(usize),
 }
 
-fn head_call(keyword: usize, s: &[u8], count: usize, b: Part) -> Call
-    ensures { result ≡ head_call keyword s.now count b }
-{
-    if count != 2 {
-        return Call::BadLine;
-    }
-    let Number::Is(head) = digits::number_of(text(s, b)) else {
-        return Call::BadLine;
-    };
-    Call::OfHead(keyword, head)
+// Why a line is no call.
+#[derive(Clone, Copy)]
+pub enum BadLine {
+    // Its first word is no keyword.
+    NoCall,
+    // The words behind do not fit it.
+    Words,
 }
 
-fn head_number_call(keyword: usize, s: &[u8], count: usize, b: Part, c: Part) -> Call
-    ensures { result ≡ head_number_call keyword s.now count b c }
+// HEAD
+fn one_number(mut fields: Fields<'_>) -> Option<usize>
+    ensures { result ≡ one_number (fields_left fields.entry) }
 {
-    if count != 3 {
-        return Call::BadLine;
-    }
-    let Number::Is(head) = digits::number_of(text(s, b)) else {
-        return Call::BadLine;
-    };
-    let Number::Is(number) = digits::number_of(text(s, c)) else {
-        return Call::BadLine;
-    };
-    Call::OfHeadNumber(keyword, head, number)
+    let n = fields.next()?;
+    fields.end()?;
+    number_of(n)
 }
 
-fn bytes_call(keyword: usize, s: &[u8], count: usize, b: Part) -> Call
-    ensures { result ≡ bytes_call keyword s.now count b }
+// HEAD ENTRY, HEAD MARK
+fn two_numbers(mut fields: Fields<'_>) -> Option<(usize, usize)>
+    ensures { result ≡ two_numbers (fields_left fields.entry) }
 {
-    if count != 2 {
-        return Call::BadLine;
-    }
-    if is_bytes(text(s, b)) {
-        Call::OfBytes(keyword, b)
-    } else {
-        Call::BadLine
-    }
+    let head = fields.next()?;
+    let n = fields.next()?;
+    fields.end()?;
+    Some((number_of(head)?, number_of(n)?))
 }
 
-fn bytes_number_call(keyword: usize, s: &[u8], count: usize, b: Part, c: Part) -> Call
-    ensures { result ≡ bytes_number_call keyword s.now count b c }
+// BYTES
+fn one_buffer<'a>(mut fields: Fields<'a>) -> Option<&'a [u8]>
+    ensures { option_copied result ≡ one_buffer (fields_left fields.entry) }
 {
-    if count != 3 {
-        return Call::BadLine;
-    }
-    let Number::Is(number) = digits::number_of(text(s, c)) else {
-        return Call::BadLine;
-    };
-    if is_bytes(text(s, b)) {
-        Call::OfBytesNumber(keyword, b, number)
-    } else {
-        Call::BadLine
-    }
+    let b = fields.next()?;
+    fields.end()?;
+    bytes_field(b)
 }
 
-fn convert_call(s: &[u8], count: usize, b: Part, c: Part, d: Part) -> Call
-    ensures { result ≡ convert_call s.now count b c d }
+// BYTES ENTRY
+fn buffer_and_number<'a>(mut fields: Fields<'a>) -> Option<(&'a [u8], usize)>
+    ensures { option_map text_pair result ≡ buffer_and_number (fields_left fields.entry) }
 {
-    if count != 4 {
-        return Call::BadLine;
-    }
-    let ReadEdition::Edition(edition) = edition_word(text(s, b)) else {
-        return Call::BadLine;
-    };
-    if !is_bytes(text(s, c)) {
-        return Call::BadLine;
-    }
-    if is_bytes(text(s, d)) {
-        Call::OfConvert(edition, c, d)
-    } else {
-        Call::BadLine
-    }
+    let b = fields.next()?;
+    let n = fields.next()?;
+    fields.end()?;
+    Some((bytes_field(b)?, number_of(n)?))
 }
 
-fn run_call(s: &[u8], count: usize, b: Part, c: Part, d: Part, e: Part) -> Call
-    ensures { result ≡ run_call s.now count b c d e }
+// EDITION BYTES BYTES
+fn convert_call<'a>(mut fields: Fields<'a>) -> Option<Call<&'a [u8]>>
+    ensures { option_map text_call result ≡ convert_call (fields_left fields.entry) }
 {
-    if count != 5 {
-        return Call::BadLine;
-    }
-    let Number::Is(head) = digits::number_of(text(s, b)) else {
-        return Call::BadLine;
-    };
-    let ReadForm::Form(form) = form_of(text(s, c)) else {
-        return Call::BadLine;
-    };
-    if !is_samples(text(s, d)) {
-        return Call::BadLine;
-    }
-    if is_samples(text(s, e)) {
-        Call::OfRun(head, form, d, e)
-    } else {
-        Call::BadLine
-    }
+    let wanted = fields.next()?;
+    let sheet = fields.next()?;
+    let target = fields.next()?;
+    fields.end()?;
+    Some(Call::Convert {
+        wanted: edition_of(wanted)?,
+        sheet: bytes_field(sheet)?,
+        output: bytes_field(target)?,
+    })
 }
 
-fn two_call(s: &[u8], count: usize, b: Part, c: Part, d: Part, e: Part, f: Part) -> Call
-    ensures { result ≡ two_call s.now count b c d e f }
+// HEAD FORM IN OUT
+fn run_call<'a>(mut fields: Fields<'a>) -> Option<Call<&'a [u8]>>
+    ensures { option_map text_call result ≡ run_call (fields_left fields.entry) }
 {
-    if count != 6 {
-        return Call::BadLine;
-    }
-    let Number::Is(head) = digits::number_of(text(s, b)) else {
-        return Call::BadLine;
-    };
-    let ReadForm::Form(form) = form_of(text(s, c)) else {
-        return Call::BadLine;
-    };
-    if !is_samples(text(s, d)) {
-        return Call::BadLine;
-    }
-    if !is_samples(text(s, e)) {
-        return Call::BadLine;
-    }
-    if is_samples(text(s, f)) {
-        Call::OfTwo(head, form, d, e, f)
-    } else {
-        Call::BadLine
-    }
+    let head = fields.next()?;
+    let form = fields.next()?;
+    let input = fields.next()?;
+    let output = fields.next()?;
+    fields.end()?;
+    Some(Call::Run {
+        head: number_of(head)?,
+        form: form_of(form)?,
+        input: samples_field(input)?,
+        output: samples_field(output)?,
+    })
 }
 
-fn call_for(keyword: usize, s: &[u8], p: Parts) -> Call
-    ensures { result ≡ call_for keyword s.now p }
+// HEAD FORM IN OUT1 OUT2
+fn two_call<'a>(mut fields: Fields<'a>) -> Option<Call<&'a [u8]>>
+    ensures { option_map text_call result ≡ two_call (fields_left fields.entry) }
 {
-    let shape = shape_of(keyword);
-    match shape {
-        Shape::Head => head_call(keyword, s, p.count, p.b),
-        Shape::HeadNumber => head_number_call(keyword, s, p.count, p.b, p.c),
-        Shape::Bytes => bytes_call(keyword, s, p.count, p.b),
-        Shape::BytesNumber => bytes_number_call(keyword, s, p.count, p.b, p.c),
-        Shape::Convert => convert_call(s, p.count, p.b, p.c, p.d),
-        Shape::Run => run_call(s, p.count, p.b, p.c, p.d, p.e),
-        Shape::Two => two_call(s, p.count, p.b, p.c, p.d, p.e, p.f),
-        Shape::NoShape => Call::BadLine,
-    }
+    let head = fields.next()?;
+    let form = fields.next()?;
+    let input = fields.next()?;
+    let first = fields.next()?;
+    let second = fields.next()?;
+    fields.end()?;
+    Some(Call::Two {
+        head: number_of(head)?,
+        form: form_of(form)?,
+        input: samples_field(input)?,
+        first: samples_field(first)?,
+        second: samples_field(second)?,
+    })
 }
 
-pub fn call_of(line: &[u8]) -> Call
-    ensures { result ≡ call_of line.now }
+fn call_for<'a>(keyword: Keyword, fields: Fields<'a>) -> Option<Call<&'a [u8]>>
+    ensures { option_map text_call result ≡ call_for keyword (fields_left fields.entry) }
 {
-    if line.len() < 1 {
-        return Call::Silent;
+    let call = match keyword {
+        Keyword::Open => Call::Open(one_buffer(fields)?),
+        Keyword::Load => {
+            let (head, entry) = two_numbers(fields)?;
+            Call::Load { head, entry }
+        }
+        Keyword::Run => run_call(fields)?,
+        Keyword::Two => two_call(fields)?,
+        Keyword::Rest => Call::Rest(one_number(fields)?),
+        Keyword::Mark => Call::Mark(one_number(fields)?),
+        Keyword::Back => {
+            let (head, mark) = two_numbers(fields)?;
+            Call::Back { head, mark }
+        }
+        Keyword::Drop => {
+            let (head, mark) = two_numbers(fields)?;
+            Call::Drop { head, mark }
+        }
+        Keyword::Write => Call::Write(one_buffer(fields)?),
+        Keyword::Check => {
+            let (sheet, entry) = buffer_and_number(fields)?;
+            Call::Check { sheet, entry }
+        }
+        Keyword::Lookup => {
+            let (sheet, entry) = buffer_and_number(fields)?;
+            Call::Lookup { sheet, entry }
+        }
+        Keyword::Head => Call::Head(one_number(fields)?),
+        Keyword::Check1 => {
+            let (sheet, entry) = buffer_and_number(fields)?;
+            Call::Check1 { sheet, entry }
+        }
+        Keyword::Lookup1 => {
+            let (sheet, entry) = buffer_and_number(fields)?;
+            Call::Lookup1 { sheet, entry }
+        }
+        Keyword::Convert => convert_call(fields)?,
+        Keyword::Count => Call::Count(one_number(fields)?),
+    };
+    Some(call)
+}
+
+pub fn call_of(line: &[u8]) -> Result<Option<Call<&[u8]>>, BadLine>
+    ensures { text_answer result ≡ call_of line.now }
+{
+    if line.is_empty() || line[0] == b'#' {
+        return Ok(None);
     }
-    if line[0] == b'#' {
-        return Call::Silent;
-    }
-    let p = split(line, b' ');
-    let keyword = number_of(text(line, p.a));
-    call_for(keyword, line, p)
+    let mut fields = Fields::of(line, b' ');
+    let word = fields.next().ok_or(BadLine::NoCall)?;
+    let keyword = keyword_of(word).ok_or(BadLine::NoCall)?;
+    let call = call_for(keyword, fields).ok_or(BadLine::Words)?;
+    Ok(Some(call))
 }

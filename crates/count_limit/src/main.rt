@@ -154,12 +154,12 @@ fn say_two(to: Stdout, n: usize, number: u8, frame: Frame, first: f32, second: f
 }
 
 fn first_of(output: &[f32]) -> f32 {
-    if output.len() < 1 { 0.0 } else { output[0] }
+    output.first().copied().unwrap_or(0.0)
 }
 
 fn lend(output: &mut [f32]) {
-    if 0 < output.len() {
-        output[0] = 7.0;
+    if let Some(x) = output.first_mut() {
+        *x = 7.0;
     }
 }
 
@@ -168,7 +168,7 @@ fn lend(output: &mut [f32]) {
 fn within(n: usize, input: &[f32]) -> usize
     ensures { Counts result input.now }
 {
-    if n < input.len() { n } else { input.len() }
+    n.min(input.len())
 }
 
 fn run(
@@ -223,11 +223,9 @@ fn back(to: Stdout, frame: Frame, m: usize) -> Frame {
 
 fn blocks(start: Frame, form: RunForm, input: &[f32], output: &mut [f32]) -> Frame {
     let mut frame = start;
-    let mut i = 0usize;
-    while i < BLOCKS {
+    for _ in 0..BLOCKS {
         let answer = frame.run(HEAD, form, input, output);
         frame = answer.frame;
-        i += 1;
     }
     frame
 }
@@ -243,11 +241,7 @@ struct Tried {
 
 // No more runs than 201 are tried.
 fn one_more_if(on: bool, n: usize) -> usize {
-    if on {
-        if n < 201 { n + 1 } else { n }
-    } else {
-        n
-    }
+    if on && n < 201 { n + 1 } else { n }
 }
 
 fn try_length(tried: Tried, form: RunForm, n: usize, input: &[f32], output: &mut [f32]) -> Tried {
@@ -274,10 +268,8 @@ fn each_length(
         refused: 0,
         accepted: 0,
     };
-    let mut n = 0usize;
-    while n < 201 {
+    for n in 0..201 {
         tried = try_length(tried, form, n, input, output);
-        n += 1;
     }
     let told = say(
         to,

@@ -1,22 +1,21 @@
 -- What is put over a list: a function's first values, and texts one after the other. Assumes nothing.
-use Prim.Native.Nat.{ℕ, zero, suc, ◌+◌, ◌≤◌, ◌/◌, ◌%◌, ◌<◌, min}
+use Prim.Native.Nat.{ℕ, zero, suc, ◌+◌, ◌≤◌, ◌<◌, min}
 use mathlib.Core.Path.{◌≡◌, refl, sym, ap, ◌∙◌}
 use mathlib.Core.List.{List, [], ◌∷◌, ◌++◌, append_assoc, append-nil}
 use native.Mathlib.Numerals.{add-one}
 use native.Mathlib.Nat.{zero-add}
 use native.Mathlib.Omega.{arith}
 use borrow.Author.Rules.{rules}
-use lib.Ieee.{Float, binary32, to_bits}
 use lib.ListN.{length, get_or, set, take, length-append}
-use lib.Seq.{take_all, length-take-le}
+use lib.Seq.{length-take-le}
 use Rattle.lists.specs.Table.{table}
 use Rattle.lists.proofs.Over.{length_over, over_none, over_behind, Copied, copy_start, copy_again, copy_done}
 use Rattle.lists.proofs.Tables.{length_table, get_or_table}
 use Rattle.lists.specs.Over.{Puts}
-use Rattle.digits.specs.Text.{glyph_of, word_text, spelled, or_dash}
+use Rattle.digits.specs.Text.{spelled}
 
 module _ {A : Type 0} where
-  pub puts_long : {at : ℕ} {xs ys : List A} {r : ℕ} {zs : List A} → Puts at xs ys r zs → length zs ≡ length ys
+  puts_long : {at : ℕ} {xs ys : List A} {r : ℕ} {zs : List A} → Puts at xs ys r zs → length zs ≡ length ys
   puts_long {at} {xs} {ys} p = ap length p.list ∙ length_over at xs ys
 
   -- ---- the first values of a function, from the place 0
@@ -69,26 +68,4 @@ module _ {A : Type 0} (text : A → List ℕ) where
       → Puts r (text (get_or xs i d)) zs q vs → Puts at (spelled text (take (i + 1) xs)) ys q vs
   spell_next xs i d p h w = spell_again xs i d p h refl w
 
-  pub spell_done : (xs : List A) (i : ℕ) {at : ℕ} {ys zs : List ℕ} {r : ℕ} → Puts at (spelled text (take i xs)) ys r zs → length xs ≤ i → (length xs ≡ 0 → ⊥)
-      → Puts at (or_dash xs (spelled text xs)) ys r zs
-  spell_done [] i p h n = absurd (n refl)
-  spell_done (x ∷ xs) i p h n = rw (take_all i (x ∷ xs) h) at p
-
-  pub spell_dash : (xs : List A) {at : ℕ} {ys zs : List ℕ} {r : ℕ} → length xs ≡ 0 → Puts at (45 ∷ []) ys r zs → Puts at (or_dash xs (spelled text xs)) ys r zs
-  spell_dash [] e p = p
-  spell_dash (x ∷ xs) e p = absurd (omega arith)
-
--- ---- the text of a word
-
-pub word_digits : (w : ℕ) {a b c d e f g h : ℕ} → a ≡ glyph_of (w / 0x1000_0000 % 16) → b ≡ glyph_of (w / 0x100_0000 % 16) → c ≡ glyph_of (w / 0x10_0000 % 16)
-    → d ≡ glyph_of (w / 0x1_0000 % 16) → e ≡ glyph_of (w / 0x1000 % 16) → f ≡ glyph_of (w / 0x100 % 16) → g ≡ glyph_of (w / 0x10 % 16) → h ≡ glyph_of (w % 16)
-    → a ∷ b ∷ c ∷ d ∷ e ∷ f ∷ g ∷ h ∷ [] ≡ word_text w
-word_digits w a b c d e f g h = rw (a, b, c, d, e, f, g, h) refl
-
-pub word_put : (x : Float) {w : ℕ} {t : List ℕ} {at : ℕ} {ys zs : List ℕ} {r : ℕ} → w ≡ to_bits binary32 x → t ≡ word_text w → Puts at t ys r zs
-    → Puts at (word_text (to_bits binary32 x)) ys r zs
-word_put x w t p = rw (← w, ← t) p
-
-pub ruleset wording = (word_digits, word_put, rules)
-
-pub ruleset putting = (fill_start, fill_again, fill_done, fill_counts, fill_takes, puts_long, spell_start, spell_again, spell_next, spell_done, spell_dash, rules)
+pub ruleset putting = (fill_start, fill_again, fill_done, fill_counts, fill_takes, spell_start, spell_again, spell_next, rules)

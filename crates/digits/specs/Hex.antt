@@ -1,26 +1,27 @@
 -- Hexadecimal text, highest digit first, with both cases of letters: bytes of two digits, words of eight.
-use Rattle.std.specs.Prelude.{ℕ, ◌+◌, ◌*◌, ◌-◌, ◌/◌, ◌%◌, Bool, cond, List, ltb, Float, length, get_or}
+use Rattle.std.specs.Prelude.{ℕ, ◌+◌, ◌*◌, ◌-◌, ◌/◌, Bool, Option, Some, None, cond, List, ltb, Float, length, get_or, is_some, unwrap_or}
+use Rattle.std.specs.List.{list_all}
 use Rattle.std.specs.Float.{binary32}
 use Rattle.std.specs.Float.Ieee.{of_bits}
 use Rattle.lists.specs.Table.{table}
 use Rattle.words.specs.Word.{word_of}
-use Rattle.digits.specs.Every.{every}
 
--- the value of a digit's byte, 16 for another byte: 0 to 9, A to F, a to f
-abbrev pub hex_digit : ℕ → ℕ
+-- the value of a digit's byte: 0 to 9, A to F, a to f
+abbrev pub hex_digit : ℕ → Option ℕ
 hex_digit b =
-    cond (ltb b 48) 16
-    (cond (ltb b 58) (b - 48) (cond (ltb b 65) 16 (cond (ltb b 71) (b - 55) (cond (ltb b 97) 16 (cond (ltb b 103) (b - 87) 16)))))
+    cond (ltb b 48) None
+    (cond (ltb b 58) (Some (b - 48))
+    (cond (ltb b 65) None (cond (ltb b 71) (Some (b - 55)) (cond (ltb b 97) None (cond (ltb b 103) (Some (b - 87)) None)))))
 
 abbrev pub is_hex : ℕ → Bool
-is_hex b = ltb (hex_digit b) 16
+is_hex b = is_some (hex_digit b)
 
 abbrev pub all_hex : List ℕ → Bool
-all_hex s = every is_hex s
+all_hex s = list_all is_hex s
 
 -- the byte of two digits; another byte of text counts as the digit 0
 abbrev pub pair_of : ℕ → ℕ → ℕ
-pair_of high low = 16 * (hex_digit high % 16) + hex_digit low % 16
+pair_of high low = 16 * unwrap_or (hex_digit high) 0 + unwrap_or (hex_digit low) 0
 
 -- the byte whose digits stand k places after i
 abbrev pub byte_from : List ℕ → ℕ → ℕ → ℕ

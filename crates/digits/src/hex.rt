@@ -7,50 +7,28 @@ ghost use Rattle.digits.specs.Hex.{hex_digit, all_hex, pair_of, byte_from, hex_w
 ghost use Rattle.lists.specs.Over.{Puts};
 ghost use Rattle.digits.specs.Place.{Counts};
 
-// 16 for a byte that is no digit.
-fn digit(b: u8) -> u8
+fn digit(b: u8) -> Option<u8>
     ensures { result ≡ hex_digit b }
 {
-    if b < 48 {
-        return 16;
+    match b {
+        b'0'..=b'9' => Some(b - 48),
+        b'A'..=b'F' => Some(b - 55),
+        b'a'..=b'f' => Some(b - 87),
+        _ => None,
     }
-    if b < 58 {
-        return b - 48;
-    }
-    if b < 65 {
-        return 16;
-    }
-    if b < 71 {
-        return b - 55;
-    }
-    if b < 97 {
-        return 16;
-    }
-    if b < 103 {
-        return b - 87;
-    }
-    16
 }
 
 pub fn all_hex(s: &[u8]) -> bool
     ensures { result ≡ all_hex s.now }
 {
-    let mut i = 0usize;
-    while i < s.len() {
-        let d = digit(s[i]);
-        if 15 < d {
-            return false;
-        }
-        i += 1;
-    }
-    true
+    s.iter().all(|&b| digit(b).is_some())
 }
 
 // The byte of two digits. Any other byte of text counts as the digit 0, so that reading is total: `all_hex` says whether there are any.
 fn pair(high: u8, low: u8) -> u8
     ensures { result ≡ pair_of high low }
 {
-    16 * (digit(high) % 16) + digit(low) % 16
+    16 * digit(high).unwrap_or(0) + digit(low).unwrap_or(0)
 }
 
 // The byte whose two digits stand k places after `at`.
@@ -87,10 +65,8 @@ pub fn bytes(s: &[u8], out: &mut [u8]) -> usize
     ensures counts { Counts result out.new }
 {
     let n = filter_core::shortest(s.len() / 2, out.len());
-    let mut i = 0usize;
-    while i < n {
+    for i in 0..n {
         out[i] = byte(s, 2 * i, 0);
-        i += 1;
     }
     n
 }
@@ -101,10 +77,8 @@ pub fn samples(s: &[u8], out: &mut [f32]) -> usize
     ensures counts { Counts result out.new }
 {
     let n = filter_core::shortest(s.len() / 8, out.len());
-    let mut i = 0usize;
-    while i < n {
+    for i in 0..n {
         out[i] = sample(s, 8 * i);
-        i += 1;
     }
     n
 }

@@ -5,7 +5,7 @@ mod decimal;
 mod hex;
 mod output;
 
-pub use decimal::{Number, number_of};
+pub use decimal::number_of;
 pub use hex::{all_hex, bytes, sample, samples};
 pub use lists::put;
 pub use output::{put_bytes, put_samples, put_word};

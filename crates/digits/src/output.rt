@@ -19,16 +19,10 @@ fn glyph(d: u32) -> u8
     }
 }
 
-fn wide(b: u8) -> u32
-    ensures { result ≡ b }
-{
-    b as u32
-}
-
 fn byte_text(b: u8) -> [u8; 2]
     ensures { result ≡ byte_text b }
 {
-    let w = wide(b);
+    let w = u32::from(b);
     [glyph(w / 16 % 16), glyph(w % 16)]
 }
 
@@ -58,15 +52,12 @@ pub fn put_word(x: f32, out: &mut [u8], at: usize) -> usize
 pub fn put_bytes(bytes: &[u8], out: &mut [u8], at: usize) -> usize
     ensures { Puts at (bytes_text bytes.now) out.old result out.new }
 {
-    if bytes.len() == 0 {
+    if bytes.is_empty() {
         return put(b"-", out, at);
     }
     let mut to = at;
-    let mut i = 0usize;
-    while i < bytes.len() {
-        let text = byte_text(bytes[i]);
-        to = put(&text, out, to);
-        i += 1;
+    for &b in bytes {
+        to = put(&byte_text(b), out, to);
     }
     to
 }
@@ -75,14 +66,12 @@ pub fn put_bytes(bytes: &[u8], out: &mut [u8], at: usize) -> usize
 pub fn put_samples(samples: &[f32], out: &mut [u8], at: usize) -> usize
     ensures { Puts at (samples_text samples.now) out.old result out.new }
 {
-    if samples.len() == 0 {
+    if samples.is_empty() {
         return put(b"-", out, at);
     }
     let mut to = at;
-    let mut i = 0usize;
-    while i < samples.len() {
-        to = put_word(samples[i], out, to);
-        i += 1;
+    for &x in samples {
+        to = put_word(x, out, to);
     }
     to
 }

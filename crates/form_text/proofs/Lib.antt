@@ -1,4 +1,2 @@
-pub mod Names
-pub mod Splits
-pub mod Fields
-pub mod Forms
+pub mod Cuts
+pub mod Spelled

@@ -1,4 +1,3 @@
 pub mod Name
-pub mod Part
 pub mod Field
 pub mod Form

@@ -1,192 +1,125 @@
 // The form of a run: a name and what goes with it, with colons between.
 
 ghost use Rattle.std.specs.Prelude.{◌≡◌};
+ghost use Rattle.form_text.specs.Field.{fields_left};
 ghost use Rattle.form_text.specs.Form.{mode_of, value_of, plain_form, gain_form, stride_form, multimode_form, decimate_form, gains_form, pair_form, split_form, form_for, form_of};
 
-use crate::name::name_index;
-use crate::part::{Part, Parts, split, text};
-use digits::Number;
+use crate::field::Fields;
+use digits::number_of;
 use filter_core::FilterMode;
 use runs::RunForm;
 
-#[derive(Clone, Copy)]
-enum ReadMode {
-    Mode(FilterMode),
-    NoMode,
-}
-
-#[derive(Clone, Copy)]
-enum ReadValue {
-    Value(f32),
-    NoValue,
-}
-
-#[derive(Clone, Copy)]
-pub enum ReadForm {
-    Form(RunForm),
-    NoForm,
-}
-
-fn mode_of(s: &[u8]) -> ReadMode
+fn mode_of(s: &[u8]) -> Option<FilterMode>
     ensures { result ≡ mode_of s.now }
 {
-    match name_index(s, b"low band normalized high") {
-        0 => ReadMode::Mode(FilterMode::LowPass),
-        1 => ReadMode::Mode(FilterMode::BandPass),
-        2 => ReadMode::Mode(FilterMode::BandPassNormalized),
-        3 => ReadMode::Mode(FilterMode::HighPass),
-        _ => ReadMode::NoMode,
+    match s {
+        b"low" => Some(FilterMode::LowPass),
+        b"band" => Some(FilterMode::BandPass),
+        b"normalized" => Some(FilterMode::BandPassNormalized),
+        b"high" => Some(FilterMode::HighPass),
+        _ => None,
     }
 }
 
 // A WORD, eight hexadecimal digits, as binary32. Every NaN pattern is the one NaN.
-fn value_of(s: &[u8]) -> ReadValue
+fn value_of(s: &[u8]) -> Option<f32>
     ensures { result ≡ value_of s.now }
 {
-    if s.len() != 8 {
-        return ReadValue::NoValue;
+    if s.len() == 8 && digits::all_hex(s) {
+        return Some(digits::sample(s, 0));
     }
-    if digits::all_hex(s) {
-        ReadValue::Value(digits::sample(s, 0))
-    } else {
-        ReadValue::NoValue
-    }
+    None
 }
 
-fn plain_form(s: &[u8], count: usize, b: Part) -> ReadForm
-    ensures { result ≡ plain_form s.now count b }
+fn plain_form(mut fields: Fields<'_>) -> Option<RunForm>
+    ensures { result ≡ plain_form (fields_left fields.entry) }
 {
-    if count != 2 {
-        return ReadForm::NoForm;
-    }
-    let ReadMode::Mode(m) = mode_of(text(s, b)) else {
-        return ReadForm::NoForm;
-    };
-    ReadForm::Form(RunForm::Plain(m))
+    let mode = fields.next()?;
+    fields.end()?;
+    Some(RunForm::Plain(mode_of(mode)?))
 }
 
-fn gain_form(s: &[u8], count: usize, b: Part, c: Part) -> ReadForm
-    ensures { result ≡ gain_form s.now count b c }
+fn gain_form(mut fields: Fields<'_>) -> Option<RunForm>
+    ensures { result ≡ gain_form (fields_left fields.entry) }
 {
-    if count != 3 {
-        return ReadForm::NoForm;
-    }
-    let ReadMode::Mode(m) = mode_of(text(s, b)) else {
-        return ReadForm::NoForm;
-    };
-    let ReadValue::Value(g) = value_of(text(s, c)) else {
-        return ReadForm::NoForm;
-    };
-    ReadForm::Form(RunForm::Gain(m, g))
+    let mode = fields.next()?;
+    let gain = fields.next()?;
+    fields.end()?;
+    Some(RunForm::Gain(mode_of(mode)?, value_of(gain)?))
 }
 
-fn stride_form(s: &[u8], count: usize, b: Part, c: Part) -> ReadForm
-    ensures { result ≡ stride_form s.now count b c }
+fn stride_form(mut fields: Fields<'_>) -> Option<RunForm>
+    ensures { result ≡ stride_form (fields_left fields.entry) }
 {
-    if count != 3 {
-        return ReadForm::NoForm;
-    }
-    let ReadMode::Mode(m) = mode_of(text(s, b)) else {
-        return ReadForm::NoForm;
-    };
-    let Number::Is(n) = digits::number_of(text(s, c)) else {
-        return ReadForm::NoForm;
-    };
-    ReadForm::Form(RunForm::Stride(m, n))
+    let mode = fields.next()?;
+    let step = fields.next()?;
+    fields.end()?;
+    Some(RunForm::Stride(mode_of(mode)?, number_of(step)?))
 }
 
-fn multimode_form(s: &[u8], count: usize, b: Part) -> ReadForm
-    ensures { result ≡ multimode_form s.now count b }
+fn multimode_form(mut fields: Fields<'_>) -> Option<RunForm>
+    ensures { result ≡ multimode_form (fields_left fields.entry) }
 {
-    if count != 2 {
-        return ReadForm::NoForm;
-    }
-    let ReadValue::Value(m) = value_of(text(s, b)) else {
-        return ReadForm::NoForm;
-    };
-    ReadForm::Form(RunForm::Multimode(m))
+    let word = fields.next()?;
+    fields.end()?;
+    Some(RunForm::Multimode(value_of(word)?))
 }
 
-fn decimate_form(s: &[u8], count: usize, b: Part, c: Part) -> ReadForm
-    ensures { result ≡ decimate_form s.now count b c }
+fn decimate_form(mut fields: Fields<'_>) -> Option<RunForm>
+    ensures { result ≡ decimate_form (fields_left fields.entry) }
 {
-    if count != 3 {
-        return ReadForm::NoForm;
-    }
-    let ReadMode::Mode(m) = mode_of(text(s, b)) else {
-        return ReadForm::NoForm;
-    };
-    let Number::Is(n) = digits::number_of(text(s, c)) else {
-        return ReadForm::NoForm;
-    };
-    ReadForm::Form(RunForm::Decimate(m, n))
+    let mode = fields.next()?;
+    let step = fields.next()?;
+    fields.end()?;
+    Some(RunForm::Decimate(mode_of(mode)?, number_of(step)?))
 }
 
-fn gains_form(s: &[u8], count: usize, b: Part, c: Part, d: Part) -> ReadForm
-    ensures { result ≡ gains_form s.now count b c d }
+fn gains_form(mut fields: Fields<'_>) -> Option<RunForm>
+    ensures { result ≡ gains_form (fields_left fields.entry) }
 {
-    if count != 4 {
-        return ReadForm::NoForm;
-    }
-    let ReadMode::Mode(m) = mode_of(text(s, b)) else {
-        return ReadForm::NoForm;
-    };
-    let ReadValue::Value(g) = value_of(text(s, c)) else {
-        return ReadForm::NoForm;
-    };
-    let ReadValue::Value(h) = value_of(text(s, d)) else {
-        return ReadForm::NoForm;
-    };
-    ReadForm::Form(RunForm::Gains(m, g, h))
+    let mode = fields.next()?;
+    let first = fields.next()?;
+    let second = fields.next()?;
+    fields.end()?;
+    Some(RunForm::Gains(mode_of(mode)?, value_of(first)?, value_of(second)?))
 }
 
-fn pair_form(s: &[u8], count: usize, b: Part, c: Part) -> ReadForm
-    ensures { result ≡ pair_form s.now count b c }
+fn pair_form(mut fields: Fields<'_>) -> Option<RunForm>
+    ensures { result ≡ pair_form (fields_left fields.entry) }
 {
-    if count != 3 {
-        return ReadForm::NoForm;
-    }
-    let ReadMode::Mode(m) = mode_of(text(s, b)) else {
-        return ReadForm::NoForm;
-    };
-    let ReadMode::Mode(n) = mode_of(text(s, c)) else {
-        return ReadForm::NoForm;
-    };
-    ReadForm::Form(RunForm::Pair(m, n))
+    let first = fields.next()?;
+    let second = fields.next()?;
+    fields.end()?;
+    Some(RunForm::Pair(mode_of(first)?, mode_of(second)?))
 }
 
-fn split_form(count: usize) -> ReadForm
-    ensures { result ≡ split_form count }
+fn split_form(fields: Fields<'_>) -> Option<RunForm>
+    ensures { result ≡ split_form (fields_left fields.entry) }
 {
-    if count != 1 {
-        return ReadForm::NoForm;
-    }
-    ReadForm::Form(RunForm::Split)
+    fields.end()?;
+    Some(RunForm::Split)
 }
 
-fn form_for(name: usize, s: &[u8], p: Parts) -> ReadForm
-    ensures { result ≡ form_for name s.now p }
+fn form_for(name: &[u8], fields: Fields<'_>) -> Option<RunForm>
+    ensures { result ≡ form_for name.now (fields_left fields.entry) }
 {
     match name {
-        0 => plain_form(s, p.count, p.b),
-        1 => gain_form(s, p.count, p.b, p.c),
-        2 => stride_form(s, p.count, p.b, p.c),
-        3 => multimode_form(s, p.count, p.b),
-        4 => decimate_form(s, p.count, p.b, p.c),
-        5 => gains_form(s, p.count, p.b, p.c, p.d),
-        6 => pair_form(s, p.count, p.b, p.c),
-        7 => split_form(p.count),
-        _ => ReadForm::NoForm,
+        b"plain" => plain_form(fields),
+        b"gain" => gain_form(fields),
+        b"stride" => stride_form(fields),
+        b"multimode" => multimode_form(fields),
+        b"decimate" => decimate_form(fields),
+        b"gains" => gains_form(fields),
+        b"pair" => pair_form(fields),
+        b"split" => split_form(fields),
+        _ => None,
     }
 }
 
-pub fn form_of(s: &[u8]) -> ReadForm
+pub fn form_of(s: &[u8]) -> Option<RunForm>
     ensures { result ≡ form_of s.now }
 {
-    let p = split(s, b':');
-    let name = name_index(
-        text(s, p.a),
-        b"plain gain stride multimode decimate gains pair split",
-    );
-    form_for(name, s, p)
+    let mut fields = Fields::of(s, b':');
+    let name = fields.next()?;
+    form_for(name, fields)
 }

@@ -1,56 +1,26 @@
 // A line is read, its call made, and its answer put into the output.
 
 use crate::faults;
-use crate::samples::{of_run, of_two};
+use crate::samples::{run, run_two};
 use crate::text::{
     put_bad_line, put_counted, put_head, put_keyword, put_long_line, put_number, put_part,
     put_written,
 };
-use call_text::Call;
-use call_text::keyword::{BACK, CHECK, CHECK1, COUNT, LOAD, LOOKUP, MARK, OPEN, REST};
-use form_text::text;
+use call_text::{BadLine, Call};
 use frame::{Answer, Frame};
 use sheets::Edition;
-
-// The shapes of a call, by number: a `match` on a number is cheaper to prove than one that takes the call apart with the frame at hand, so
-// that each shape's own function does that.
-const SILENT: usize = 0;
-
-const BAD_LINE: usize = 1;
-
-const OF_HEAD: usize = 2;
-
-const OF_HEAD_NUMBER: usize = 3;
-
-const OF_BYTES: usize = 4;
-
-const OF_BYTES_NUMBER: usize = 5;
-
-const OF_CONVERT: usize = 6;
-
-const OF_RUN: usize = 7;
-
-const OF_TWO: usize = 8;
-
-fn shape_of(call: Call) -> usize {
-    match call {
-        Call::Silent => SILENT,
-        Call::BadLine => BAD_LINE,
-        Call::OfHead(_, _) => OF_HEAD,
-        Call::OfHeadNumber(_, _, _) => OF_HEAD_NUMBER,
-        Call::OfBytes(_, _) => OF_BYTES,
-        Call::OfBytesNumber(_, _, _) => OF_BYTES_NUMBER,
-        Call::OfConvert(_, _, _) => OF_CONVERT,
-        Call::OfRun(_, _, _, _) => OF_RUN,
-        Call::OfTwo(_, _, _, _, _) => OF_TWO,
-    }
-}
 
 // The frame after a line, and the place behind its answer in the output.
 #[derive(Clone, Copy)]
 pub(crate) struct Answered {
     pub(crate) frame: Frame,
     pub(crate) at: usize,
+}
+
+// The same frame, with another place behind its answer.
+fn ending(mut now: Answered, at: usize) -> Answered {
+    now.at = at;
+    now
 }
 
 fn plain(answer: Answer, out: &mut [u8], at: usize) -> Answered {
@@ -80,144 +50,107 @@ fn count(now: Answered, head: usize, out: &mut [u8]) -> Answered {
     Answered { frame, at }
 }
 
-fn of_head(call: Call, now: Answered, out: &mut [u8]) -> Answered {
-    let Call::OfHead(keyword, h) = call else {
-        return now;
-    };
-    match keyword {
-        REST => plain(now.frame.rest(h), out, now.at),
-        MARK => mark(now, h, out),
-        COUNT => count(now, h, out),
-        _ => head(now, h, out),
-    }
+fn open(now: Answered, sheet: &[u8], out: &mut [u8]) -> Answered {
+    let mut bytes = [0u8; 4096];
+    let n = digits::bytes(sheet, &mut bytes);
+    plain(now.frame.open(&bytes[..n]), out, now.at)
 }
 
-fn head_number(keyword: usize, frame: Frame, head: usize, n: usize) -> Answer {
-    match keyword {
-        LOAD => frame.load(head, n),
-        BACK => frame.back(head, n),
-        _ => frame.drop(head, n),
-    }
-}
-
-fn of_head_number(call: Call, now: Answered, out: &mut [u8]) -> Answered {
-    let Call::OfHeadNumber(keyword, head, n) = call else {
-        return now;
-    };
-    plain(head_number(keyword, now.frame, head, n), out, now.at)
-}
-
-fn write(now: Answered, bytes: &mut [u8], out: &mut [u8]) -> Answered {
-    let answer = now.frame.write(bytes);
+fn write(now: Answered, output: &[u8], out: &mut [u8]) -> Answered {
+    let mut bytes = [0u8; 4096];
+    let n = digits::bytes(output, &mut bytes);
+    let answer = now.frame.write(&mut bytes[..n]);
     let frame = answer.frame;
-    let at = put_written(answer.number, answer.length, bytes, out, now.at);
+    let at = put_written(answer.number, answer.length, &bytes[..n], out, now.at);
     Answered { frame, at }
 }
 
-fn with_bytes(keyword: usize, now: Answered, bytes: &mut [u8], out: &mut [u8]) -> Answered {
-    match keyword {
-        OPEN => plain(now.frame.open(bytes), out, now.at),
-        _ => write(now, bytes, out),
-    }
-}
-
-fn of_bytes(call: Call, now: Answered, line: &[u8], out: &mut [u8]) -> Answered {
-    let Call::OfBytes(keyword, part) = call else {
-        return now;
-    };
+fn check(sheet: &[u8], entry: usize, out: &mut [u8], at: usize) -> usize {
     let mut bytes = [0u8; 4096];
-    let n = digits::bytes(text(line, part), &mut bytes);
-    with_bytes(keyword, now, &mut bytes[..n], out)
+    let n = digits::bytes(sheet, &mut bytes);
+    put_number(sheets::check_entry(&bytes[..n], entry), out, at)
 }
 
-fn with_sheet(keyword: usize, sheet: &[u8], entry: usize, out: &mut [u8], at: usize) -> usize {
-    match keyword {
-        CHECK => put_number(sheets::check_entry(sheet, entry), out, at),
-        LOOKUP => put_part(sheets::lookup(sheet, entry), out, at),
-        CHECK1 => put_number(sheets::check_entry_edition_one(sheet, entry), out, at),
-        _ => put_part(sheets::lookup_edition_one(sheet, entry), out, at),
-    }
-}
-
-fn of_bytes_number(call: Call, mut now: Answered, line: &[u8], out: &mut [u8]) -> Answered {
-    let Call::OfBytesNumber(keyword, part, entry) = call else {
-        return now;
-    };
+fn lookup(sheet: &[u8], entry: usize, out: &mut [u8], at: usize) -> usize {
     let mut bytes = [0u8; 4096];
-    let n = digits::bytes(text(line, part), &mut bytes);
-    let at = with_sheet(keyword, &bytes[..n], entry, out, now.at);
-    now.at = at;
-    now
+    let n = digits::bytes(sheet, &mut bytes);
+    put_part(sheets::lookup(&bytes[..n], entry), out, at)
 }
 
-fn convert(wanted: Edition, sheet: &[u8], output: &mut [u8], out: &mut [u8], at: usize) -> usize {
-    let answer = conversion::convert(wanted, sheet, output);
-    put_written(answer.number, answer.length, output, out, at)
+fn check_edition_one(sheet: &[u8], entry: usize, out: &mut [u8], at: usize) -> usize {
+    let mut bytes = [0u8; 4096];
+    let n = digits::bytes(sheet, &mut bytes);
+    put_number(sheets::check_entry_edition_one(&bytes[..n], entry), out, at)
 }
 
-fn of_convert(call: Call, mut now: Answered, line: &[u8], out: &mut [u8]) -> Answered {
-    let Call::OfConvert(wanted, s, o) = call else {
-        return now;
-    };
-    let mut sheet = [0u8; 4096];
-    let mut output = [0u8; 4096];
-    let n = digits::bytes(text(line, s), &mut sheet);
-    let m = digits::bytes(text(line, o), &mut output);
-    let at = convert(wanted, &sheet[..n], &mut output[..m], out, now.at);
-    now.at = at;
-    now
+fn lookup_edition_one(sheet: &[u8], entry: usize, out: &mut [u8], at: usize) -> usize {
+    let mut bytes = [0u8; 4096];
+    let n = digits::bytes(sheet, &mut bytes);
+    put_part(sheets::lookup_edition_one(&bytes[..n], entry), out, at)
 }
 
-fn of_call(shape: usize, call: Call, now: Answered, line: &[u8], out: &mut [u8]) -> Answered {
-    match shape {
-        OF_HEAD => of_head(call, now, out),
-        OF_HEAD_NUMBER => of_head_number(call, now, out),
-        OF_BYTES => of_bytes(call, now, line, out),
-        OF_BYTES_NUMBER => of_bytes_number(call, now, line, out),
-        OF_CONVERT => of_convert(call, now, line, out),
-        OF_RUN => of_run(call, now, line, out),
-        _ => of_two(call, now, line, out),
+fn convert(wanted: Edition, sheet: &[u8], output: &[u8], out: &mut [u8], at: usize) -> usize {
+    let mut bytes = [0u8; 4096];
+    let mut converted = [0u8; 4096];
+    let n = digits::bytes(sheet, &mut bytes);
+    let m = digits::bytes(output, &mut converted);
+    let answer = conversion::convert(wanted, &bytes[..n], &mut converted[..m]);
+    put_written(answer.number, answer.length, &converted[..m], out, at)
+}
+
+fn of_call(call: Call<&[u8]>, now: Answered, out: &mut [u8]) -> Answered {
+    match call {
+        Call::Open(sheet) => open(now, sheet, out),
+        Call::Load { head, entry } => plain(now.frame.load(head, entry), out, now.at),
+        Call::Run {
+            head,
+            form,
+            input,
+            output,
+        } => run(now, head, form, input, output, out),
+        Call::Two {
+            head,
+            form,
+            input,
+            first,
+            second,
+        } => run_two(now, head, form, input, first, second, out),
+        Call::Rest(h) => plain(now.frame.rest(h), out, now.at),
+        Call::Mark(h) => mark(now, h, out),
+        Call::Back { head, mark } => plain(now.frame.back(head, mark), out, now.at),
+        Call::Drop { head, mark } => plain(now.frame.drop(head, mark), out, now.at),
+        Call::Write(output) => write(now, output, out),
+        Call::Check { sheet, entry } => ending(now, check(sheet, entry, out, now.at)),
+        Call::Lookup { sheet, entry } => ending(now, lookup(sheet, entry, out, now.at)),
+        Call::Head(h) => head(now, h, out),
+        Call::Check1 { sheet, entry } => ending(now, check_edition_one(sheet, entry, out, now.at)),
+        Call::Lookup1 { sheet, entry } => {
+            ending(now, lookup_edition_one(sheet, entry, out, now.at))
+        }
+        Call::Convert {
+            wanted,
+            sheet,
+            output,
+        } => ending(now, convert(wanted, sheet, output, out, now.at)),
+        Call::Count(h) => count(now, h, out),
     }
 }
 
 fn bad_line(
     rt: HostRuntime,
-    mut now: Answered,
+    now: Answered,
     lines: usize,
     line: &[u8],
+    why: BadLine,
     out: &mut [u8],
 ) -> Answered {
-    faults::bad_line(rt, lines, line);
-    let at = put_bad_line(out, now.at);
-    now.at = at;
-    now
+    faults::bad_line(rt, lines, line, why);
+    ending(now, put_bad_line(out, now.at))
 }
 
-fn long_line(rt: HostRuntime, mut now: Answered, lines: usize, out: &mut [u8]) -> Answered {
+fn long_line(rt: HostRuntime, now: Answered, lines: usize, out: &mut [u8]) -> Answered {
     faults::long_line(rt, lines);
-    let at = put_long_line(out, now.at);
-    now.at = at;
-    now
-}
-
-fn of_line(
-    rt: HostRuntime,
-    mut now: Answered,
-    lines: usize,
-    line: &[u8],
-    out: &mut [u8],
-) -> Answered {
-    let call = call_text::call_of(line);
-    let shape = shape_of(call);
-    match shape {
-        SILENT => now,
-        BAD_LINE => bad_line(rt, now, lines, line, out),
-        _ => {
-            let at = put_keyword(line, out, now.at);
-            now.at = at;
-            of_call(shape, call, now, line, out)
-        }
-    }
+    ending(now, put_long_line(out, now.at))
 }
 
 // `lines` is the line's number.
@@ -231,5 +164,9 @@ pub(crate) fn answer(
     if 65535 < line.len() {
         return long_line(rt, now, lines, out);
     }
-    of_line(rt, now, lines, line, out)
+    match call_text::call_of(line) {
+        Ok(None) => now,
+        Err(why) => bad_line(rt, now, lines, line, why, out),
+        Ok(Some(call)) => of_call(call, ending(now, put_keyword(line, out, now.at)), out),
+    }
 }

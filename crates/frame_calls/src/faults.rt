@@ -1,47 +1,34 @@
 // What is wrong with a line, for people: a line on standard error, by one write, so that nothing tears it. That it cannot be written
 // changes nothing.
 
-use crate::text::{keyword, number};
-use call_text::keyword::number_of;
+use crate::text::number;
+use call_text::BadLine;
 use std::io::Write;
 
-// `?` is no keyword, and so has the number behind the last.
-fn is_call(word: &[u8]) -> bool {
-    number_of(word) < number_of(b"?")
-}
-
-fn ends_in_return(line: &[u8]) -> bool {
-    let n = line.len();
-    if n < 1 {
-        return false;
-    }
-    line[n - 1] == b'\r'
-}
-
-fn put_words(line: &[u8], out: &mut [u8], at: usize) -> usize {
-    if is_call(keyword(line)) {
-        return digits::put(
+fn put_why(why: BadLine, out: &mut [u8], at: usize) -> usize {
+    match why {
+        BadLine::NoCall => digits::put(
+            b"its first word is no call: docs/REFERENCE.md lists the calls\n",
+            out,
+            at,
+        ),
+        BadLine::Words => digits::put(
             b"the words behind the call do not fit it: docs/REFERENCE.md says what it takes\n",
             out,
             at,
-        );
+        ),
     }
-    digits::put(
-        b"its first word is no call: docs/REFERENCE.md lists the calls\n",
-        out,
-        at,
-    )
 }
 
-fn put_fault(line: &[u8], out: &mut [u8], at: usize) -> usize {
-    if ends_in_return(line) {
+fn put_fault(line: &[u8], why: BadLine, out: &mut [u8], at: usize) -> usize {
+    if line.last() == Some(&b'\r') {
         return digits::put(
             b"it ends in a carriage return (a file from Windows?): take them out with tr -d '\\r'\n",
             out,
             at,
         );
     }
-    put_words(line, out, at)
+    put_why(why, out, at)
 }
 
 fn put_place(lines: usize, out: &mut [u8]) -> usize {
@@ -55,10 +42,10 @@ fn say(rt: HostRuntime, text: &[u8], at: usize) {
     let _ = rt.stderr().write(&text[..n]);
 }
 
-pub(crate) fn bad_line(rt: HostRuntime, lines: usize, line: &[u8]) {
+pub(crate) fn bad_line(rt: HostRuntime, lines: usize, line: &[u8], why: BadLine) {
     let mut text = [0u8; 160];
     let a = put_place(lines, &mut text);
-    let b = put_fault(line, &mut text, a);
+    let b = put_fault(line, why, &mut text, a);
     say(rt, &text, b);
 }
 

@@ -1,10 +1,10 @@
 // The reading loop: lines out of what each read brings, and an unfinished line held until the next.
 
 use crate::answers::{Answered, answer};
-use crate::output::{send, send_if, send_if_enough};
+use crate::output::{send, send_if_enough};
 use crate::{faults, text};
 use frame::Frame;
-use std::io::Error;
+use std::io;
 
 // A line may have so many bytes.
 const LONGEST: usize = 65535;
@@ -17,13 +17,6 @@ struct State {
     lines: usize,
     held: usize,
     skipping: bool,
-    going: bool,
-}
-
-#[derive(Clone, Copy)]
-struct Start {
-    from: usize,
-    skipping: bool,
 }
 
 // How far the lines of a text were answered.
@@ -32,193 +25,146 @@ struct Taken {
     frame: Frame,
     lines: usize,
     used: usize,
-    skipping: bool,
-    going: bool,
 }
 
-// How many bytes there are after a read, and why it failed, if it did.
-#[derive(Clone, Copy)]
-struct Filled {
-    end: usize,
-    failed: Option<Error>,
-}
-
-// The count of lines stays at the greatest number, if a run should ever come there.
-fn one_more(lines: usize) -> usize {
-    if lines < usize::MAX { lines + 1 } else { lines }
-}
-
-// Where the lines begin: past the rest of a long line, if there is one.
-fn lines_begin(text: &[u8], skipping: bool) -> Start {
+// Where the lines begin: past the rest of a long line, if there is one. None where that line goes on behind the text.
+fn lines_begin(text: &[u8], skipping: bool) -> Option<usize> {
     if !skipping {
-        return Start {
-            from: 0,
-            skipping: false,
-        };
+        return Some(0);
     }
-    let end = scan::find(text, 0, b'\n');
-    if end == text.len() {
-        return Start {
-            from: end,
-            skipping: true,
-        };
-    }
-    Start {
-        from: end + 1,
-        skipping: false,
-    }
+    Some(scan::find(text, 0, b'\n')? + 1)
 }
 
-// Answers every whole line of the text from the start on, as long as the output takes the answers.
-fn take_lines(rt: HostRuntime, state: State, start: Start, text: &[u8], out: &mut [u8]) -> Taken {
+// Answers every whole line of the text from the place `start` on, unless the output takes no more.
+fn take_lines(
+    rt: HostRuntime,
+    state: State,
+    start: usize,
+    text: &[u8],
+    out: &mut [u8],
+) -> Option<Taken> {
     let frame = state.frame;
     let mut now = Answered { frame, at: 0 };
     let mut lines = state.lines;
-    let mut going = true;
-    let mut from = start.from;
-    while from < text.len() && going {
-        let end = scan::find(text, from, b'\n');
-        if end == text.len() {
-            break;
-        }
+    let mut from = start;
+    while let Some(end) = scan::find(text, from, b'\n') {
         let line = &text[from..end];
         from = end + 1;
-        lines = one_more(lines);
+        // The count stays at the greatest number, if a run should ever come there.
+        lines = lines.saturating_add(1);
         now = answer(rt, now, lines, line, out);
-        let sent = send_if_enough(rt, out, now.at);
-        now.at = sent.at;
-        going = sent.going;
+        let at = send_if_enough(rt, out, now.at)?;
+        now.at = at;
+    }
+    if !send(rt, out, now.at) {
+        return None;
     }
     let last = now.frame;
-    Taken {
+    Some(Taken {
         frame: last,
         lines,
         used: from,
-        skipping: start.skipping,
-        going: send_if(rt, going, out, now.at),
-    }
+    })
 }
 
-// Reads once behind what is held.
-fn fill(rt: HostRuntime, buffer: &mut [u8], held: usize) -> Filled {
+// Reads once behind what is held, and answers how many bytes there are then.
+fn fill(rt: HostRuntime, buffer: &mut [u8], held: usize) -> io::Result<usize> {
     if buffer.len() <= held {
-        return Filled {
-            end: held,
-            failed: None,
-        };
+        return Ok(held);
     }
-    let got = streams::read(&mut rt.stdin(), &rt, &mut buffer[held..]);
-    Filled {
-        end: held + got.count,
-        failed: got.failed,
-    }
+    let n = streams::read(&mut rt.stdin(), &rt, &mut buffer[held..])?;
+    Ok(held + n)
 }
 
 // Moves the bytes from `from` up to `end` to the buffer's start, and answers how many they are.
 fn keep(buffer: &mut [u8], from: usize, end: usize) -> usize {
-    if buffer.len() < end {
+    if end < from || buffer.len() < end {
         return 0;
     }
-    if end < from {
-        return 0;
-    }
-    let n = end - from;
-    let mut i = 0usize;
-    while i < n {
-        buffer[i] = buffer[from + i];
-        i += 1;
-    }
-    n
-}
-
-// Nothing more is read or answered.
-fn stopped(state: State) -> State {
-    let frame = state.frame;
-    State {
-        frame,
-        lines: state.lines,
-        held: 0,
-        skipping: false,
-        going: false,
-    }
+    buffer.copy_within(from..end, 0);
+    end - from
 }
 
 // The input has ended. The last line may lack its line feed.
-fn last(rt: HostRuntime, state: State, buffer: &[u8], out: &mut [u8]) -> State {
+fn last(rt: HostRuntime, state: State, buffer: &[u8], out: &mut [u8]) {
     let frame = state.frame;
     let n = streams::within(state.held, buffer);
     let now = Answered { frame, at: 0 };
-    let answered = answer(rt, now, one_more(state.lines), &buffer[..n], out);
+    let answered = answer(rt, now, state.lines.saturating_add(1), &buffer[..n], out);
     send(rt, out, answered.at);
-    stopped(state)
 }
 
-// A line was too long before its end came. Answers whether the output takes more.
-fn say_long(rt: HostRuntime, going: bool, lines: usize, out: &mut [u8]) -> bool {
-    if !going {
-        return false;
-    }
+// A line was too long before its end came, of which the rest is to be passed over.
+fn skip(rt: HostRuntime, taken: Taken, out: &mut [u8]) -> Option<State> {
+    let frame = taken.frame;
+    let lines = taken.lines.saturating_add(1);
     faults::long_line(rt, lines);
     let at = text::put_long_line(out, 0);
-    send(rt, out, at)
-}
-
-// What is held after the lines of a read, `kept` bytes of the last. That line may be too long already.
-fn hold(rt: HostRuntime, taken: Taken, kept: usize, out: &mut [u8]) -> State {
-    let frame = taken.frame;
-    if LONGEST < kept {
-        let lines = one_more(taken.lines);
-        return State {
-            frame,
-            lines,
-            held: 0,
-            skipping: true,
-            going: say_long(rt, taken.going, lines, out),
-        };
+    if !send(rt, out, at) {
+        return None;
     }
-    State {
+    Some(State {
         frame,
-        lines: taken.lines,
-        held: kept,
-        skipping: taken.skipping,
-        going: taken.going,
-    }
+        lines,
+        held: 0,
+        skipping: true,
+    })
 }
 
-// Answers the lines that are whole of the buffer's first bytes, up to `end`, and holds the rest.
-fn take(rt: HostRuntime, state: State, end: usize, buffer: &mut [u8], out: &mut [u8]) -> State {
+// Answers the lines that are whole of the buffer's first bytes, up to `end`, and holds the rest. That may be too long already.
+fn take(
+    rt: HostRuntime,
+    state: State,
+    end: usize,
+    buffer: &mut [u8],
+    out: &mut [u8],
+) -> Option<State> {
     let n = streams::within(end, buffer);
     let start = lines_begin(&buffer[..n], state.skipping);
-    let taken = take_lines(rt, state, start, &buffer[..n], out);
-    let kept = keep(buffer, taken.used, n);
-    hold(rt, taken, kept, out)
+    let taken = take_lines(rt, state, start.unwrap_or(n), &buffer[..n], out)?;
+    let held = keep(buffer, taken.used, n);
+    if LONGEST < held {
+        return skip(rt, taken, out);
+    }
+    let frame = taken.frame;
+    Some(State {
+        frame,
+        lines: taken.lines,
+        held,
+        skipping: start.is_none(),
+    })
 }
 
-// Reads once, and answers what there is then. A line that a failed read cuts off gets no answer.
-fn step(rt: HostRuntime, state: State, buffer: &mut [u8], out: &mut [u8]) -> State {
-    let filled = fill(rt, buffer, state.held);
-    if let Some(error) = filled.failed {
-        let _ = eprintln!(rt; "frame_calls: cannot read the calls: {error}");
-        return stopped(state);
+// Reads once, and answers what there is then. None where nothing more is to be read: the input has ended or failed, or the output takes no
+// more. A line that a failed read cuts off gets no answer.
+fn step(rt: HostRuntime, state: State, buffer: &mut [u8], out: &mut [u8]) -> Option<State> {
+    match fill(rt, buffer, state.held) {
+        Ok(end) => {
+            if end == state.held {
+                last(rt, state, buffer, out);
+                return None;
+            }
+            take(rt, state, end, buffer, out)
+        }
+        Err(error) => {
+            let _ = eprintln!(rt; "frame_calls: cannot read the calls: {error}");
+            None
+        }
     }
-    if filled.end == state.held {
-        return last(rt, state, buffer, out);
-    }
-    take(rt, state, filled.end, buffer, out)
 }
 
-// A proved loop has to end, and nothing says that the input does. So the loop counts its turns down, from a number that no run uses up.
+// A proved loop has to end, and nothing says that the input does. So the loop has a number of turns that no run uses up.
 pub(crate) fn serve(rt: HostRuntime, buffer: &mut [u8], out: &mut [u8]) {
     let mut state = State {
         frame: Frame::fresh(),
         lines: 0,
         held: 0,
         skipping: false,
-        going: true,
     };
-    let mut turns = u64::MAX;
-    while turns > 0 && state.going {
-        state = step(rt, state, buffer, out);
-        turns -= 1;
+    for _ in 0..u64::MAX {
+        let Some(next) = step(rt, state, buffer, out) else {
+            return;
+        };
+        state = next;
     }
 }

@@ -3,34 +3,23 @@
 // Answers are written once they take so many bytes.
 const ENOUGH: usize = 8192;
 
-// The place behind the answers that wait, and whether the output takes more.
-#[derive(Clone, Copy)]
-pub(crate) struct Sent {
-    pub(crate) at: usize,
-    pub(crate) going: bool,
-}
-
-// Writes the answers up to `at`, or says why that cannot be done.
+// Writes the answers up to `at`, or says why that cannot be done. Answers whether the output takes more.
 pub(crate) fn send(rt: HostRuntime, out: &[u8], at: usize) -> bool {
     let n = streams::within(at, out);
-    let put = streams::write(&mut rt.stdout(), &rt, &out[..n]);
-    if let Some(error) = put.failed {
-        let _ = eprintln!(rt; "frame_calls: cannot write the answers: {error}");
-        return false;
+    match streams::write(&mut rt.stdout(), &rt, &out[..n]) {
+        Ok(_) => true,
+        Err(unwritten) => {
+            let error = unwritten.error;
+            let _ = eprintln!(rt; "frame_calls: cannot write the answers: {error}");
+            false
+        }
     }
-    true
 }
 
-pub(crate) fn send_if(rt: HostRuntime, going: bool, out: &[u8], at: usize) -> bool {
-    if going { send(rt, out, at) } else { false }
-}
-
-pub(crate) fn send_if_enough(rt: HostRuntime, out: &[u8], at: usize) -> Sent {
+// The place behind the answers that still wait, unless the output takes no more.
+pub(crate) fn send_if_enough(rt: HostRuntime, out: &[u8], at: usize) -> Option<usize> {
     if at < ENOUGH {
-        return Sent { at, going: true };
+        return Some(at);
     }
-    Sent {
-        at: 0,
-        going: send(rt, out, at),
-    }
+    if send(rt, out, at) { Some(0) } else { None }
 }

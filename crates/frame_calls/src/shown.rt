@@ -19,17 +19,11 @@ fn name(filter: FilterType, out: &mut [u8], at: usize) -> usize {
     }
 }
 
-fn word_if(there: bool, x: f32, out: &mut [u8], at: usize) -> usize {
-    if there { word(x, out, at) } else { at }
-}
-
 // The first `count` of the fields.
 fn fields(v: [f32; 8], count: usize, out: &mut [u8], at: usize) -> usize {
     let mut to = at;
-    let mut i = 0usize;
-    while i < 8 {
-        to = word_if(i < count, v[i], out, to);
-        i += 1;
+    for &x in v.iter().take(count) {
+        to = word(x, out, to);
     }
     to
 }

@@ -1,10 +1,7 @@
 // The text of an answer: the line's keyword, which is put before the call is made, then the refusal's number and what the call hands back.
 
+use form_text::Fields;
 use heads::Head;
-
-fn wide(b: u8) -> usize {
-    b as usize
-}
 
 pub(crate) fn number(n: usize, out: &mut [u8], at: usize) -> usize {
     let mut digits = [0u8; 20];
@@ -12,15 +9,14 @@ pub(crate) fn number(n: usize, out: &mut [u8], at: usize) -> usize {
     digits::put(&digits[..k], out, at)
 }
 
-pub(crate) fn keyword(line: &[u8]) -> &[u8] {
-    let end = scan::find(line, 0, b' ');
-    &line[0..end]
+fn keyword(line: &[u8]) -> &[u8] {
+    Fields::of(line, b' ').next().unwrap_or(line)
 }
 
 // A space and the refusal's number.
 fn numbered(refusal: u8, out: &mut [u8], at: usize) -> usize {
     let a = space(out, at);
-    number(wide(refusal), out, a)
+    number(usize::from(refusal), out, a)
 }
 
 // A space and n, unless the call was refused.

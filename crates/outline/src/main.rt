@@ -33,8 +33,8 @@ fn main(rt: HostRuntime) {
 // The text goes out by one write, or standard error says why it does not.
 fn print<R: Print + Eprint + Clock>(rt: &R, text: &[u8], end: usize) {
     let n = streams::within(end, text);
-    let put = streams::write(&mut writer(rt), rt, &text[..n]);
-    if let Some(error) = put.failed {
+    if let Err(unwritten) = streams::write(&mut writer(rt), rt, &text[..n]) {
+        let error = unwritten.error;
         let _ = eprintln!(rt; "outline: cannot write the points: {error}");
     }
 }
@@ -80,10 +80,8 @@ fn put_points(
     at: usize,
 ) -> usize {
     let mut to = at;
-    let mut i = 0usize;
-    while i < 16 {
+    for i in 0..16 {
         to = put_point(i, x[i], y[i], smooth_x[i], smooth_y[i], out, to);
-        i += 1;
     }
     to
 }

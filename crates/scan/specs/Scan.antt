@@ -1,11 +1,7 @@
 -- Where a byte stands in a text.
-use Rattle.std.specs.Prelude.{ℕ, suc, cond, List, [], ◌∷◌, eqb, take, drop}
+use Rattle.std.specs.Prelude.{ℕ, List, Option, drop, eqb}
+use Rattle.std.specs.List.{position_from}
 
--- the first place of a byte in a text, or the text's length
-unfoldable pub index_of : ℕ → List ℕ → ℕ
-index_of b [] = 0
-index_of b (x ∷ xs) = cond (eqb x b) 0 (suc (index_of b xs))
-
--- what stands from the place `from` up to `to`
-unfoldable pub slice : ℕ → ℕ → List ℕ → List ℕ
-slice from to s = drop from (take to s)
+-- the first place of a byte in a text, from the place `from` on
+abbrev pub first_from : ℕ → ℕ → List ℕ → Option ℕ
+first_from from b s = position_from (λ x. eqb x b) from (drop from s)

@@ -1,28 +1,22 @@
 // Reading and writing by a stream that may not be ready: a call that would block, or that a signal broke off, is made again. Any other
 // failure is handed to the caller, with what the system says of it.
-// The loops count their turns down, since nothing says that a stream is ever ready, from a number that no run uses up.
+// The loops have a number of turns that no run uses up, since nothing says that a stream is ever ready.
 #![tactic(auto)]
 
-ghost use Rattle.std.specs.Prelude.{◌≤◌, min, ◌≡◌, IsNone, IsSome, length};
+ghost use Rattle.std.specs.Prelude.{◌≡◌, ◌<◌, ◌≤◌, min, IfOk, IfErr, length};
+ghost use Rattle.std.specs.Io.KnownBytes.{ReadConsumes, WriteAppends};
 ghost use Rattle.io.specs.Counts.{IsPrefixLen};
+ghost use Rattle.streams.specs.Whole.{WritesFront};
 
 use std::io::{Error, ErrorKind, Read, Write};
-use std::thread;
 use std::time::{Clock, Duration};
+use std::{io, thread};
 
-// What a read came to: how many bytes stand at the start of the buffer, none at the end of the input and where it failed; and why it
-// failed, if it did.
+// Why not all bytes were written, and how many were.
 #[derive(Clone, Copy)]
-pub struct Got {
+pub struct Unwritten {
     pub count: usize,
-    pub failed: Option<Error>,
-}
-
-// What a write came to: how many bytes were written, and why not all of them were, if so.
-#[derive(Clone, Copy)]
-pub struct Put {
-    pub count: usize,
-    pub failed: Option<Error>,
+    pub error: Error,
 }
 
 // n, or buf's length where that is less.
@@ -30,7 +24,7 @@ pub fn within(n: usize, buf: &[u8]) -> usize
     ensures prefix_len { IsPrefixLen result buf.now }
     ensures value { result ≡ min n (length buf.now) }
 {
-    if n < buf.len() { n } else { buf.len() }
+    n.min(buf.len())
 }
 
 // Waits for a millisecond: a loop that only tries again would take a whole processor.
@@ -48,102 +42,62 @@ fn again<C: Clock>(clock: &C, error: Error) -> bool {
     kind == ErrorKind::Interrupted
 }
 
-// Whether a call failed, and is to be made again.
-fn again_if<C: Clock>(clock: &C, failed: Option<Error>) -> bool {
-    match failed {
-        Some(error) => again(clock, error),
-        None => false,
-    }
-}
-
-fn read_once<R: Read>(from: &mut R, buf: &mut [u8]) -> Got
-    ensures count_in_bounds { result.count ≤ length buf.old }
-    ensures count_value { IsSome result.failed → result.count ≡ 0 }
+// Reads once, but waits until there is something to read, the input ends or the read fails. What it read stands at the buffer's start.
+pub fn read<R: Read, C: Clock>(from: &mut R, clock: &C, buf: &mut [u8]) -> io::Result<usize>
+    ensures count_in_bounds { IfOk result (λ n. n ≤ length buf.old) }
+    ensures bytes { ReadConsumes (R.remaining from.old) (R.remaining from.new) result buf.new }
 {
-    match from.read(buf) {
-        Ok(brought) => Got {
-            count: brought,
-            failed: None,
-        },
-        Err(error) => Got {
-            count: 0,
-            failed: Some(error),
-        },
-    }
-}
-
-// Reads once, but waits until there is something to read, the input ends or the read fails.
-pub fn read<R: Read, C: Clock>(from: &mut R, clock: &C, buf: &mut [u8]) -> Got
-    ensures count_in_bounds { result.count ≤ length buf.old }
-    ensures count_value { IsSome result.failed → result.count ≡ 0 }
-{
-    let mut got = read_once(from, buf);
-    let mut turns = u64::MAX;
-    while turns > 0 && again_if(clock, got.failed) {
-        got = read_once(from, buf);
-        turns -= 1;
-    }
-    got
-}
-
-// Why a write of n bytes failed, if it did: one that takes nothing has.
-fn failed_if_none(n: usize) -> Option<Error> {
-    if n == 0 {
-        Some(Error::from(ErrorKind::WriteZero))
-    } else {
-        None
-    }
-}
-
-fn write_once<W: Write>(to: &mut W, buf: &[u8]) -> Put
-    ensures { result.count ≤ length buf.now }
-{
-    match to.write(buf) {
-        Ok(n) => Put {
-            count: n,
-            failed: failed_if_none(n),
-        },
-        Err(error) => Put {
-            count: 0,
-            failed: Some(error),
-        },
-    }
-}
-
-// Why a rest was not written: the last failure, or that the turns were used up.
-fn reason(rest: &[u8], failed: Option<Error>) -> Option<Error>
-    ensures { IsNone result → length rest.now ≡ 0 }
-{
-    if rest.len() == 0 {
-        return None;
-    }
-    match failed {
-        Some(error) => Some(error),
-        None => Some(Error::from(ErrorKind::TimedOut)),
-    }
-}
-
-// Writes buf, and answers how many of its bytes were written: all of them, unless a write failed.
-pub fn write<W: Write, C: Clock>(to: &mut W, clock: &C, buf: &[u8]) -> Put
-    ensures count_in_bounds { result.count ≤ length buf.now }
-    ensures whole { IsNone result.failed → result.count ≡ length buf.now }
-{
-    let mut rest = buf;
-    let mut failed = None;
-    let mut turns = u64::MAX;
-    while turns > 0 && rest.len() > 0 {
-        let put = write_once(to, rest);
-        rest = &rest[put.count..];
-        failed = put.failed;
-        if failed.is_some() {
-            if !again_if(clock, failed) {
-                break;
+    'reads: for _ in 0..u64::MAX {
+        match from.read(buf) {
+            Ok(n) => return Ok(n),
+            Err(error) => {
+                if !again(clock, error) {
+                    return Err(error);
+                }
             }
         }
-        turns -= 1;
     }
-    Put {
-        count: buf.len() - rest.len(),
-        failed: reason(rest, failed),
+    from.read(buf)
+}
+
+// Writes once: how many bytes were written, none where the call is to be made again. A write that takes nothing has failed.
+fn write_once<W: Write, C: Clock>(to: &mut W, clock: &C, buf: &[u8]) -> io::Result<usize>
+    ensures count_in_bounds { IfOk result (λ n. n ≤ length buf.now) }
+    ensures bytes { WriteAppends (W.contents to.old) (W.contents to.new) result buf.now }
+{
+    match to.write(buf) {
+        Ok(0) => Err(Error::from(ErrorKind::WriteZero)),
+        Ok(n) => Ok(n),
+        Err(error) => {
+            if again(clock, error) {
+                return Ok(0);
+            }
+            Err(error)
+        }
     }
+}
+
+// Writes all of buf, whose length it answers, unless a write fails or the turns are used up.
+pub fn write<W: Write, C: Clock>(to: &mut W, clock: &C, buf: &[u8]) -> Result<usize, Unwritten>
+    ensures whole { IfOk result (λ n. n ≡ length buf.now) }
+    ensures count_in_bounds { IfErr result (λ e. e.count < length buf.now) }
+    ensures bytes { WritesFront (W.contents to.old) (W.contents to.new) result buf.now }
+{
+    let mut count = 0usize;
+    for _ in 0..u64::MAX {
+        if count == buf.len() {
+            return Ok(count);
+        }
+        match write_once(to, clock, &buf[count..]) {
+            Ok(n) => count += n,
+            Err(error) => return Err(Unwritten { count, error }),
+        }
+    }
+    if count == buf.len() {
+        return Ok(count);
+    }
+    Err(Unwritten {
+        count,
+        error: Error::from(ErrorKind::TimedOut),
+    })
 }

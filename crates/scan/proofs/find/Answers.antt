@@ -1,18 +1,19 @@
-use Rattle.std.proofs.Common.{arith, refl, drop}
-use lib.ListN.{length-drop}
-use Rattle.scan.proofs.First.{found_at, found_none, rest_is}
+use Rattle.std.proofs.Common.{◌≡◌, ◌∙◌, ap, eqb, drop, arith}
+use Rattle.std.specs.List.{position_from}
+use Rattle.std.proofs.lemmas.List.{take_rest}
+use Rattle.scan.proofs.First.{first_at, first_nowhere}
 use Rattle.scan.proofs.find.Goals as goal
 
-pub returns-then-s-from-clause-value : goal.returns-then-s-from-clause-value
-returns-then-s-from-clause-value c l =
-    found_none c.args.byte c.args.from c.args.s.now (drop c.args.from c.args.s.now) refl l
-    (λ j h. let d = length-drop c.args.from c.args.s.now in absurd (omega arith))
+pub returns-in_err-memchr-clause-value : goal.returns-in_err-memchr-clause-value
+returns-in_err-memchr-clause-value c =
+    let w : c.in_ok-rest.rest.now ≡ drop c.args.from c.args.s.now = c.in_ok-rest.ensures.lookup.0.2 ∙ take_rest c.args.s.now c.args.from in
+    c.from_residual-in_err-memchr.ensures
+    ∙ first_nowhere (λ x. eqb x c.args.byte) c.args.from c.in_ok-rest.rest.now (λ j l. c.in_err-memchr.ensures j (omega arith) l)
+    ∙ ap (position_from (λ x. eqb x c.args.byte) c.args.from) w
 
-pub returns-in-Some-clause-value : goal.returns-in-Some-clause-value
-returns-in-Some-clause-value c l =
-    found_at c.args.byte c.args.from c.args.s.now _ (rest_is c.args.from c.args.s.now) c.in-Some.k c.in-Some.ensures.0.high
-    (λ j h. c.in-Some.ensures.0.before j (omega arith) h) c.in-Some.ensures.1
-
-pub returns-in-None-clause-value : goal.returns-in-None-clause-value
-returns-in-None-clause-value c l =
-    found_none c.args.byte c.args.from c.args.s.now _ (rest_is c.args.from c.args.s.now) l (λ j h. c.in-None.ensures j (omega arith) h)
+pub returns-clause-value : goal.returns-clause-value
+returns-clause-value c =
+    let w : c.in_ok-rest.rest.now ≡ drop c.args.from c.args.s.now = c.in_ok-rest.ensures.lookup.0.2 ∙ take_rest c.args.s.now c.args.from in
+    let e = c.in_ok-memchr.ensures in
+    first_at (λ x. eqb x c.args.byte) c.args.from c.in_ok-rest.rest.now c.in_ok-memchr.field-0 e.0.high (λ j l. e.0.before j (omega arith) l) e.1
+    ∙ ap (position_from (λ x. eqb x c.args.byte) c.args.from) w

@@ -1,12 +1,6 @@
-use Rattle.std.proofs.Common.{◌≤◌, ◌≡◌, IsSome, length}
+use Rattle.std.specs.Io.KnownBytes.{Keeps}
 use Rattle.streams.proofs.read.Given as goal
 
-abbrev pub invariant-loop-turns : goal.invariant-loop-turns
-invariant-loop-turns g l = record {
-  same_length : length l.buf ≡ length l.initial.buf;
-  count_in_bounds : l.got.count ≤ length l.initial.buf;
-  count_value : IsSome l.got.failed → l.got.count ≡ 0;
-}
-
-abbrev pub decreases-loop-turns : goal.decreases-loop-turns
-decreases-loop-turns g l = l.turns
+-- a read that failed took nothing
+abbrev pub invariant-reads : goal.invariant-reads
+invariant-reads g l = Keeps (g.R.Read.remaining l.initial.from) (g.R.Read.remaining l.from)

@@ -1,8 +1,9 @@
-use Rattle.std.proofs.Common.{◌≤◌, length}
+use Rattle.std.proofs.Common.{◌≤◌, length, take}
+use Rattle.std.specs.Io.KnownBytes.{Appends}
 use Rattle.streams.proofs.write.Given as goal
 
-abbrev pub invariant-loop-turns : goal.invariant-loop-turns
-invariant-loop-turns g l = length l.rest ≤ length l.buf
-
-abbrev pub decreases-loop-turns : goal.decreases-loop-turns
-decreases-loop-turns g l = l.turns
+abbrev pub invariant-loop : goal.invariant-loop
+invariant-loop g l = record {
+  in_bounds : l.count ≤ length l.buf;
+  written : Appends (g.W.Write.contents l.initial.to) (g.W.Write.contents l.to) (take l.count l.buf);
+}

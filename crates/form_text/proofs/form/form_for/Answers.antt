@@ -1,42 +1,12 @@
-use mathlib.Core.Path.{refl}
-use native.Mathlib.Omega.{arith}
-use Rattle.form_text.specs.Form.{forms, form_for}
-use Rattle.form_text.specs.declared.form.ReadForm.TheVariants.{NoForm}
-use Rattle.form_text.proofs.Names.{past_places, placing}
+use Rattle.std.proofs.Common.{codes, arith}
+use Rattle.form_text.proofs.Spelled.{spelled}
 use Rattle.form_text.proofs.form.form_for.Goals as goal
 
-pub returns-in-0 : goal.returns-in-0
-unfolding form_for
-returns-in-0 c = search placing
+pub returns-in-stride : goal.returns-in-stride
+returns-in-stride c = let w = spelled c.args.name.now (codes "stride") (grind arith) in rw w c.stride_form.ensures
 
-pub returns-in-1 : goal.returns-in-1
-unfolding form_for
-returns-in-1 c = search placing
+pub returns-in-decimate : goal.returns-in-decimate
+returns-in-decimate c = let w = spelled c.args.name.now (codes "decimate") (grind arith) in rw w c.decimate_form.ensures
 
-pub returns-in-2 : goal.returns-in-2
-unfolding form_for
-returns-in-2 c = search placing
-
-pub returns-in-3 : goal.returns-in-3
-unfolding form_for
-returns-in-3 c = search placing
-
-pub returns-in-4 : goal.returns-in-4
-unfolding form_for
-returns-in-4 c = search placing
-
-pub returns-in-5 : goal.returns-in-5
-unfolding form_for
-returns-in-5 c = search placing
-
-pub returns-in-6 : goal.returns-in-6
-unfolding form_for
-returns-in-6 c = search placing
-
-pub returns-in-7 : goal.returns-in-7
-unfolding form_for
-returns-in-7 c = search placing
-
-pub returns-in_default : goal.returns-in_default
-unfolding form_for
-returns-in_default c = past_places (forms c.args.s.now c.args.p) NoForm (omega arith) refl
+pub returns-in-multimode : goal.returns-in-multimode
+returns-in-multimode c = let w = spelled c.args.name.now (codes "multimode") (grind arith) in rw w c.multimode_form.ensures

@@ -1,2 +1,0 @@
-pub mod Buffers
-pub mod Lines

@@ -1,0 +1,49 @@
+// A text split at a separator.
+
+ghost use Rattle.std.specs.Prelude.{◌≡◌, ℕ, List, [], ◌∷◌, MatchOption};
+ghost use Rattle.form_text.specs.Field.{fields_of, fields_left};
+
+// The fields of a text, taken one after the other. The rest is the text of those that are not taken yet; there is none when all are.
+#[derive(Clone, Copy)]
+pub struct Fields<'a> {
+    rest: Option<&'a [u8]>,
+    separator: u8,
+}
+
+impl<'a> Fields<'a> {
+    pub fn of(text: &'a [u8], separator: u8) -> Fields<'a>
+        ensures { fields_left result ≡ fields_of separator text.now }
+    {
+        Fields {
+            rest: Some(text),
+            separator,
+        }
+    }
+
+    // The next field, if there is one.
+    pub fn next(&mut self) -> Option<&'a [u8]>
+        ensures { MatchOption result (fields_left self.old ≡ []) (λ f. fields_left self.old ≡ f.now ∷ fields_left self.new) }
+    {
+        let rest = self.rest?;
+        match scan::find(rest, 0, self.separator) {
+            Some(end) => {
+                self.rest = Some(&rest[end + 1..]);
+                Some(&rest[..end])
+            }
+            None => {
+                self.rest = None;
+                Some(rest)
+            }
+        }
+    }
+
+    // Nothing, unless every field is taken.
+    pub fn end(&self) -> Option<()>
+        ensures { MatchOption result ((f : List ℕ) × (fs : List (List ℕ)) × (fields_left self.now ≡ f ∷ fs)) (λ _. fields_left self.now ≡ []) }
+    {
+        match self.rest {
+            Some(_) => None,
+            None => Some(()),
+        }
+    }
+}
