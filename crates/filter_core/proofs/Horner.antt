@@ -1,5 +1,5 @@
 -- Horner's rule as a fold from the row's end. Assumes nothing.
-use mathlib.Core.Path.{◌≡◌, refl, ◌∙◌}
+use mathlib.Core.Path.{◌≡◌, refl}
 use mathlib.Core.List.{List, [], ◌∷◌, ◌++◌, reverse}
 use lib.Ieee.{Float}
 use Rattle.std.specs.List.{fold}

@@ -1,6 +1,6 @@
 -- A function that is odd by a test of its frequency is odd, and so is a multiple of it. Assumes nothing.
 use Prim.Native.Nat.{ℕ, zero, suc, ◌*◌, ◌^◌, ◌+◌}
-use mathlib.Core.Path.{◌≡◌, refl, sym, ap, ◌∙◌}
+use mathlib.Core.Path.{◌≡◌, refl, sym}
 use mathlib.Core.Bool.{Bool, true, false, not, cond}
 use borrow.Author.Tests.{ltb-true, le-ltb}
 use native.Mathlib.Omega.{arith}
@@ -9,7 +9,6 @@ use lib.Ieee.{Float, nan, inf, fin, Format, binary32, prec, emax, low, unlike, u
 use lib.Ieee as ieee
 use Rattle.filter_core.specs.Arithmetic.{◌*ᶠ◌, zeroᶠ, negᶠ}
 use Rattle.filter_core.specs.Odd.{odd, OddFrom}
-use Rattle.filter_core.proofs.Choices.{first_of, choosing}
 
 -- ---- signs
 
@@ -60,14 +59,8 @@ times_neg f (fin s m e) (fin t n d) = rw (unlike_not s t) (round_neg f (unlike s
 -- ---- odd functions
 
 module _ (g : Float → Float) where
-  pub mirrored : (f : Float) {v w : Float} → lt f zeroᶠ ≡ true → w ≡ g (negᶠ f) → v ≡ negᶠ w → v ≡ odd g f
-  mirrored f {v} e p q = first_of (lt f zeroᶠ) (negᶠ (g (negᶠ f))) (g f) v e (q ∙ ap negᶠ p)
-
   pub is_odd : OddFrom g (odd g)
   is_odd = record { from_zero = λ f e. rw e refl; below_zero = λ f e. rw (e, above f e) refl }
 
   pub times_is_odd : (y : Float) → OddFrom (λ f. y *ᶠ g f) (λ f. y *ᶠ odd g f)
   times_is_odd y = record { from_zero = λ f e. rw e refl; below_zero = λ f e. rw (e, above f e) (times_neg binary32 y (g (negᶠ f))) }
-
--- what `search` is handed where a function is odd by its test
-pub ruleset mirroring = (mirrored, choosing)

@@ -9,12 +9,10 @@ use native.Mathlib.Nat.{mod-add-mod, mod-eq_of_lt, add-mod_right, add-zero, add-
 use borrow.Author.Rules.{rules}
 use borrow.Author.Tests.{eq-eqb, ne_eqb, ltb-true, ltb-false}
 use lib.Dec.{ltb}
-use lib.Ieee.{Float, binary32, nan, mul}
+use lib.Ieee.{Float, nan}
 use lib.ListN.{length, get_or, set, take, drop, length-set, length-take, take-append-drop, drop_of_length-le}
 use lib.Seq.{take-take, take-suc-set, take-suc, drop-cons, drop-drop, drop-set-lt, get_or-take, get_or-drop, length-take-le, take_all}
 use Rattle.filter_core.specs.Buffer.{within, state_after, buffer_after, Filtered, each, due, each_due, puts_due}
-use Rattle.filter_core.specs.Refusal.{Answered, step_refusal}
-use Rattle.filter_core.proofs.Refusals.{refusing, accepting, zero_is}
 
 -- the sample at the place k
 abbrev pub at : List Float → ℕ → Float
@@ -228,28 +226,5 @@ module _ {S : Type 0} {d : ℕ} {step : S → Float → S} {out : S → Float �
       → Filtered (each step) (puts_due d out) s (within xs ys) ys f zs
   count_filtered g h e = filtered g.going h e
 
--- ---- a form that goes by the step d: number is what the code has of its refusal
-
--- a step that is not refused
-pub some_step : {d number : ℕ} → number ≡ step_refusal d → number ≡ 0 → 0 < d
-some_step {d} r z = go (ltb 0 d) refl
-  where
-    go : (b : Bool) → ltb 0 d ≡ b → 0 < d
-    go true q = ltb-true 0 d q
-    go false q =
-        let h : d ≡ 0 = omega (arith, ltb-false 0 d q) in
-        let e : 0 ≡ step_refusal 0 = rw h at (zero_is r z) in omega arith
-
-module _ {S : Type 0} {d : ℕ} {next : ℕ → S → Float → S} {put : ℕ → S → Float → Float → Float} {s : S} {xs ys : List Float} {number : ℕ} (r : number ≡ step_refusal d) where
-  pub refused : (number ≡ 0 → ⊥) → Answered d next put s xs ys number s ys
-  refused z = record { refusal = r; filtered = rw (refusing number (step_refusal d) r z) (record { state = refl; buffer = refl }) }
-
-  pub accepted : {f : S} {zs : List Float} → number ≡ 0 → Filtered next put s xs ys f zs → Answered d next put s xs ys 0 f zs
-  accepted z e = record { refusal = zero_is r z; filtered = rw (accepting number (step_refusal d) r z) e }
-
--- of equal floats the products are equal
-pub times : (a b g : Float) → a ≡ b → mul binary32 a g ≡ mul binary32 b g
-times a b g e = rw e refl
-
 -- what `search` is handed at each need of such a loop
-pub ruleset passing = (start, start_first, start_second, again, filtered, filtered_first, filtered_second, place_start, place_again, place_filtered, leap_start, leap_on, leap_off, leap_filtered, count_start, count_write, count_keep, count_filtered, some_step, refused, accepted, times, rules)
+pub ruleset passing = (start, start_first, start_second, again, filtered, filtered_first, filtered_second, place_start, place_again, place_filtered, leap_start, leap_on, leap_off, leap_filtered, count_start, count_write, count_keep, count_filtered, rules)

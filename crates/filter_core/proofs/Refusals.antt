@@ -5,11 +5,7 @@ use Prim.Native.Nat.{ℕ}
 use lib.Dec.{eqb}
 use borrow.Author.Rules.{rules}
 use borrow.Author.Tests.{eq-eqb, ne_eqb}
-use lib.Ieee.{Float}
-use Rattle.filter_core.specs.Refusal.{frequency_refusal, unless_refused}
-use Rattle.filter_core.specs.declared.FrequencyApproximation.{FrequencyApproximation}
-use Rattle.filter_core.specs.declared.FrequencyApproximation.TheVariants.{Exact}
-use Rattle.filter_core.proofs.Choices.{choosing}
+use Rattle.filter_core.specs.Refusal.{unless_refused}
 
 module _ (n r : ℕ) (e : n ≡ r) where
   pub refusing : (n ≡ 0 → ⊥) → eqb r 0 ≡ false
@@ -29,12 +25,6 @@ module _ {A : Type 0} {n r : ℕ} (was made : A) (e : n ≡ r) where
 
   pub goes : {x : A} → n ≡ 0 → x ≡ made → x ≡ unless_refused r was made
   goes z x = x ∙ rw (accepting n r e z)
-
--- the number of a frequency in Exact, whatever it is
-pub in_exact : (f : Float) {a : FrequencyApproximation} {n : ℕ} → a ≡ Exact → n ≡ frequency_refusal f Exact → n ≡ frequency_refusal f a
-in_exact f e p = rw e p
-
-pub ruleset frequencies = (in_exact, choosing)
 
 -- what `search` is handed at each need of a call that can be refused
 pub ruleset refusals = (zero_is, stays, goes, rules)

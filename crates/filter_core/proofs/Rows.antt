@@ -4,7 +4,6 @@ use mathlib.Core.Path.{◌≡◌, refl}
 use mathlib.Core.Bool.{Bool, true, false, cond}
 use mathlib.Core.List.{List, [], ◌∷◌}
 use mathlib.Core.Logic.{◌⊎◌, inl, inr}
-use borrow.Author.Rules.{rules}
 use borrow.Author.Tests.{eqb-true, eqb-false, eq-eqb, ne_eqb, ltb-true, ltb-false}
 use lib.Dec.{eqb, ltb}
 use lib.Ieee.{Float, lt}
@@ -45,8 +44,6 @@ none_then a b h = rw (eq-eqb a 0 h) refl
 
 pub some_then : (a b : ℕ) → (a ≡ 0 → ⊥) → a ≡ (a then b)
 some_then a b h = rw (ne_eqb a 0 h) refl
-
-pub ruleset thens = (none_then, some_then, rules)
 
 -- ---- the first number of a list
 

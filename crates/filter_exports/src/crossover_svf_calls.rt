@@ -9,8 +9,8 @@ ghost use Rattle.crossover_svf.specs.Fields.{crossover_from, crossover_fields};
 ghost use Rattle.filter_exports.specs.Calls.{Runs};
 
 use crate::UNKNOWN;
-use filter_core::FilterMode;
 use crossover_svf::CrossoverSvf;
+use filter_core::FilterMode;
 
 pub fn crossover_svf_new(state: &mut [f32; 8])
     ensures { state.new ≡ crossover_fields crossover_new }

@@ -142,6 +142,7 @@ pub fn svf_process_dual(
     0
 }
 
+#[tactic(auto, using(crate::proofs::Settings::kept))]
 pub fn svf_process_buffer(state: &mut [f32; 5], in_: &[f32], out: &mut [f32], mode: u32) -> u8
     ensures { Runs svf_from svf_fields (unknown_refusal last_mode mode) (each svf_next) (puts (svf_out (mode_of mode)))
         state.old (within in_.now out.old) out.old result state.new out.new }
@@ -156,6 +157,7 @@ pub fn svf_process_buffer(state: &mut [f32; 5], in_: &[f32], out: &mut [f32], mo
 }
 
 // The output is overwritten, and nothing is added, as the source does.
+#[tactic(auto, using(crate::proofs::Settings::kept))]
 pub fn svf_process_add_buffer(
     state: &mut [f32; 5],
     in_: &[f32],
@@ -176,6 +178,7 @@ pub fn svf_process_add_buffer(
 }
 
 // Refused with UNKNOWN, then with 10 where the stride is 0.
+#[tactic(auto, using(crate::proofs::Settings::due_kept))]
 pub fn svf_process_stride_buffer(
     state: &mut [f32; 5],
     in_: &[f32],
@@ -197,6 +200,7 @@ pub fn svf_process_stride_buffer(
     0
 }
 
+#[tactic(auto, using(crate::proofs::Settings::kept))]
 pub fn svf_process_multimode_buffer(state: &mut [f32; 5], in_: &[f32], out: &mut [f32], mode: f32)
     ensures { Filters svf_from svf_fields (each svf_next) (puts (svf_multimode mode))
         state.old (within in_.now out.old) out.old state.new out.new }
@@ -206,6 +210,7 @@ pub fn svf_process_multimode_buffer(state: &mut [f32; 5], in_: &[f32], out: &mut
     filter_fields::svf_retain(state, filter);
 }
 
+#[tactic(auto, using(crate::proofs::Settings::kept))]
 pub fn svf_process_add_dual_buffer(
     state: &mut [f32; 5],
     in_: &[f32],

@@ -3,8 +3,8 @@
 
 pub use crossover_svf::CrossoverSvf;
 pub use dc_blocker::DcBlocker;
-pub use filter_core::{FilterMode, FrequencyApproximation};
-pub use modified_svf::{ModifiedSvf, ModifiedSvfOut};
-pub use naive_svf::{NaiveSvf, NaiveSvfAnswer, NaiveSvfOut};
-pub use one_pole::{OnePole, OnePoleAnswer, OnePoleOut, Tangent};
-pub use svf::{Svf, SvfAnswer, SvfOut};
+pub use filter_core::{FilterMode, Form, FrequencyApproximation, PairForm, Refusal, UnknownNumber};
+pub use modified_svf::ModifiedSvf;
+pub use naive_svf::NaiveSvf;
+pub use one_pole::OnePole;
+pub use svf::Svf;

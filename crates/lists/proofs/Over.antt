@@ -6,7 +6,6 @@ use mathlib.Core.Logic.{⊎_elim}
 use native.Mathlib.Nat.{zero-add, add_assoc}
 use native.Mathlib.Numerals.{add-one}
 use native.Mathlib.Omega.{arith}
-use borrow.Author.Rules.{rules}
 use borrow.Rule.Slice.PartMut.{put_mid}
 use lib.ListN.{length, get_or, set, take, drop, length-set, length-append, drop_of_length-le}
 use lib.Seq.{paste, paste-zero, paste-suc, length-paste, take-paste, drop-paste, take-append-add, take-append-le, take_all, take-take, take-length, drop-drop, set_split}
@@ -161,10 +160,6 @@ module _ {A : Type 0} where
   pub copy_start : (at : ℕ) (xs ys : List A) (n : ℕ) → at ≤ length ys → n ≡ room at xs ys → Copied at xs ys n 0 ys
   copy_start at xs ys n l e = record { inside = omega arith; source = omega arith; places = omega arith; long = refl; is = paste-zero ys at xs }
 
-  -- the premise as the branch before the loop leaves it
-  pub copy_inside : (at : ℕ) (xs ys : List A) (n : ℕ) → at < length ys → n ≡ room at xs ys → Copied at xs ys n 0 ys
-  copy_inside at xs ys n l e = copy_start at xs ys n (omega arith) e
-
   pub copy_again : {at : ℕ} {xs ys : List A} {n i : ℕ} {zs : List A} (d : A) → Copied at xs ys n i zs → i < n → Copied at xs ys n (i + 1) (set zs (at + i) (get_or xs i d))
   copy_again {at} {xs} {ys} {n} {i} {zs} d c h =
       record {
@@ -178,8 +173,3 @@ module _ {A : Type 0} where
   pub copy_done : {at : ℕ} {xs ys : List A} {n i : ℕ} {zs : List A} → Copied at xs ys n i zs → n ≤ i → n ≡ room at xs ys → zs ≡ over at xs ys
   unfolding over
   copy_done {at} {xs} {ys} {n} {i} {zs} c h e = let w : i ≡ room at xs ys = omega (arith, c.inside) in rw (← w) c.is
-
-  pub copy_none : (at : ℕ) (xs ys : List A) → length ys ≤ at → ys ≡ over at xs ys
-  copy_none at xs ys h = sym (over_past at xs ys h)
-
-pub ruleset copying = (copy_inside, copy_again, copy_done, copy_none, rules)

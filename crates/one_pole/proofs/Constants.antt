@@ -35,3 +35,7 @@ accurate_d_is = refl
 pub accurate_e_is : word 0x452e_fe26 ≡ accurate_e
 unfolding accurate_e mul of_bits
 accurate_e_is = refl
+
+pub ruleset dirty = dirty_a_is
+pub ruleset fast = (fast_a_is, fast_b_is)
+pub ruleset accurate = (accurate_a_is, accurate_b_is, accurate_c_is, accurate_d_is, accurate_e_is)

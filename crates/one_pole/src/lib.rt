@@ -125,12 +125,14 @@ impl OnePole {
         }
     }
 
+    #[tactic(auto, using(crate::proofs::Constants::dirty))]
     fn tan_dirty(f: f32) -> f32
         ensures { result ≡ tan_dirty f }
     {
         f * (Self::PI + Self::DIRTY_A * f * f)
     }
 
+    #[tactic(auto, using(crate::proofs::Constants::fast))]
     fn tan_fast(f: f32) -> f32
         ensures { result ≡ tan_fast f }
     {
@@ -139,6 +141,7 @@ impl OnePole {
     }
 
     // The series above without its fourth coefficient, as the source has it.
+    #[tactic(auto, using(crate::proofs::Constants::accurate))]
     fn tan_accurate(f: f32) -> f32
         ensures { result ≡ tan_accurate f }
     {
