@@ -1,71 +1,79 @@
--- What is put over a list: a function's first values, and texts one after the other. Assumes nothing.
+-- What a buffer of N places holds after texts were put behind it, and after a function's first values. Assumes nothing.
 use Prim.Native.Nat.{ℕ, zero, suc, ◌+◌, ◌≤◌, ◌<◌, min}
 use mathlib.Core.Path.{◌≡◌, refl, sym, ap, ◌∙◌}
 use mathlib.Core.List.{List, [], ◌∷◌, ◌++◌, append_assoc, append-nil}
 use native.Mathlib.Numerals.{add-one}
-use native.Mathlib.Nat.{zero-add}
 use native.Mathlib.Omega.{arith}
 use borrow.Author.Rules.{rules}
-use lib.ListN.{length, get_or, set, take, length-append}
-use lib.Seq.{length-take-le}
+use lib.ListN.{length, get_or, take, length-append}
+use lib.Seq.{take-append-add, take_all, take-suc}
+use Rattle.std.specs.List.{flat_map}
+use Rattle.std.proofs.lemmas.Grind.{flat_map-append}
+use Rattle.std.proofs.lemmas.List.{take_min, take_more}
 use Rattle.lists.specs.Table.{table}
-use Rattle.lists.proofs.Over.{length_over, over_none, over_behind, Copied, copy_start, copy_again, copy_done}
-use Rattle.lists.proofs.Tables.{length_table, get_or_table}
-use Rattle.lists.specs.Over.{Puts}
-use Rattle.digits.specs.Text.{spelled}
+use Rattle.digits.specs.Text.{or_dash}
+use Rattle.lists.proofs.Tables.{length_table, table_none, table_more, take_of_table}
 
-module _ {A : Type 0} where
-  puts_long : {at : ℕ} {xs ys : List A} {r : ℕ} {zs : List A} → Puts at xs ys r zs → length zs ≡ length ys
-  puts_long {at} {xs} {ys} p = ap length p.list ∙ length_over at xs ys
+module _ {A : Type 0} (N : ℕ) where
+  -- as much of a text as has room
+  pub put_is : (xs ys : List A) {n : ℕ} (r : ℕ) → r + length xs ≡ N → n ≡ min (length ys) r → xs ++ take n ys ≡ take N (xs ++ ys)
+  put_is xs ys {n} r e m =
+      let swap : n ≡ min r (length ys) = omega arith in
+      let whole : N ≡ length xs + r = omega arith in
+      rw (swap, take_min, whole) (sym (take-append-add xs ys r))
 
-  -- ---- the first values of a function, from the place 0
+again : {A : Type 0} (n : ℕ) (xs zs : List A) → take n (take n xs ++ zs) ≡ take n (xs ++ zs)
+again zero xs zs = refl
+again (suc n) [] zs = refl
+again {A} (suc n) (x ∷ xs) zs = ap (λ (l : List A). x ∷ l) (again n xs zs)
 
-  module _ (f : ℕ → A) (m : ℕ) (ys : List A) where
-    pub fill_start : (n : ℕ) → n ≡ min m (length ys) → Copied 0 (table m f) ys n 0 ys
-    fill_start n e = copy_start 0 (table m f) ys n (omega arith) (rw (length_table m f) (omega arith))
+-- ---- texts of a list's members, one after the other
 
-    pub fill_again : {n i : ℕ} {zs : List A} {v : A} → Copied 0 (table m f) ys n i zs → i < n → v ≡ f i → Copied 0 (table m f) ys n (i + 1) (set zs i v)
-    fill_again {n} {i} {zs} {v} c h e =
-        let w : get_or (table m f) i v ≡ f i = get_or_table m f i v (omega (arith, c.source, length_table m f)) in
-        rw (zero-add i, w, ← e) at (copy_again v c h)
+module _ {A : Type 0} (text : A → List ℕ) (N : ℕ) (l : List A) (xs : List ℕ) (a : A) (r : List A) where
+  pub spell_one : l ≡ a ∷ r → {ys : List ℕ} → ys ≡ take N (xs ++ text a) → ys ≡ take N (xs ++ flat_map text (take (0 + 1) l))
+  spell_one e y = rw (e, append-nil (text a)) y
 
-    pub fill_done : {n i : ℕ} {zs : List A} → Copied 0 (table m f) ys n i zs → n ≤ i → n ≡ min m (length ys) → Puts 0 (table m f) ys n zs
-    fill_done {n} c h e = record { list = copy_done c h (rw (length_table m f) (omega arith)); place = omega (arith, length_table m f) }
+  spell_more : l ≡ a ∷ r → (i : ℕ) (d : A) {ys zs : List ℕ} → ys ≡ take N (xs ++ flat_map text (take (i + 1) l)) → i < length r
+      → zs ≡ take N (ys ++ text (get_or r i d)) → zs ≡ take N (xs ++ flat_map text (take (i + 1 + 1) l))
+  spell_more e i d {ys} {zs} y h z =
+      let here : get_or l (i + 1) d ≡ get_or r i d = rw (e, add-one) refl in
+      let longer : i + 1 < length l = rw e (omega arith) in
+      let next : flat_map text (take (i + 1 + 1) l) ≡ flat_map text (take (i + 1) l) ++ text (get_or r i d) =
+      rw (take_more l (i + 1) d longer, flat_map-append, here) (ap (λ (x : List ℕ). flat_map text (take (i + 1) l) ++ x) (append-nil _)) in
+      z ∙ rw (y, next, ← append_assoc) (again N (xs ++ flat_map text (take (i + 1) l)) (text (get_or r i d)))
 
-  pub fill_counts : {xs ys : List A} {n i : ℕ} {zs : List A} → Copied 0 xs ys n i zs → n ≤ length zs
-  fill_counts {zs = zs} c = omega (arith, c.places, c.long)
+  -- v is the member, t its text, u what is put
+  pub spell_next : l ≡ a ∷ r → (i : ℕ) (v : A) {ys zs t u : List ℕ} → ys ≡ take N (xs ++ flat_map text (take (i + 1) l)) → i < length r
+      → v ≡ get_or r i v → t ≡ text v → u ≡ t → zs ≡ take N (ys ++ u) → zs ≡ take N (xs ++ flat_map text (take (i + 1 + 1) l))
+  spell_next e i v y h m t u z = spell_more e i v y h (rw (u, t, ap text m) at z)
 
-  pub fill_takes : {xs ys : List A} {n i : ℕ} {zs : List A} → Copied 0 xs ys n i zs → n ≡ length (take n zs)
-  fill_takes {n = n} {zs = zs} c = sym (length-take-le n zs (fill_counts c))
+  pub spell_all : l ≡ a ∷ r → (i : ℕ) {ys : List ℕ} → ys ≡ take N (xs ++ flat_map text (take (i + 1) l)) → length r ≤ i → ys ≡ take N (xs ++ or_dash text l)
+  spell_all e i y h =
+      let all : take (i + 1) l ≡ l = take_all (i + 1) l (rw e (omega arith)) in
+      let whole : flat_map text l ≡ or_dash text l = rw e refl in
+      rw (all, whole) at y
 
-  -- ---- one text after the other is both at once
+pub spell_none : {A : Type 0} (text : A → List ℕ) (N : ℕ) (l : List A) (xs : List ℕ) {ys : List ℕ} → l ≡ [] → ys ≡ take N (xs ++ 45 ∷ []) → ys ≡ take N (xs ++ or_dash text l)
+spell_none text N l xs e y = rw e y
 
-  puts_more : {at : ℕ} {xs ys : List A} {r : ℕ} {zs ws : List A} {q : ℕ} {vs : List A} → Puts at xs ys r zs → Puts r ws zs q vs → Puts at (xs ++ ws) ys q vs
-  puts_more {at} {xs} {ys} {r} {zs} {ws} p w =
-      record {
-        list = w.list ∙ rw (p.place, p.list) (over_behind at xs ws ys);
-        place = omega (arith, p.place, w.place, puts_long p, length-append xs ws);
-      }
+-- ---- the first values of a function
 
--- ---- texts of a list's members
+module _ {A : Type 0} (f : ℕ → A) (N : ℕ) (xs : List A) where
+  pub values_none : xs ≡ xs ++ table 0 f
+  values_none = rw (table_none f) (sym (append-nil xs))
 
-module _ {A : Type 0} (text : A → List ℕ) where
-  spelled_more : (xs : List A) (i : ℕ) (d : A) → i < length xs → spelled text (take (suc i) xs) ≡ spelled text (take i xs) ++ text (get_or xs i d)
-  unfolding spelled
-  spelled_more [] i d h = absurd (omega arith)
-  spelled_more (x ∷ xs) zero d h = append-nil (text x)
-  spelled_more (x ∷ xs) (suc i) d h = rw (spelled_more xs i d (omega arith)) (sym (append_assoc (text x) (spelled text (take i xs)) (text (get_or xs i d))))
+  pub values_more : (i : ℕ) {ys zs : List A} {v : A} → ys ≡ xs ++ table i f → v ≡ f i → zs ≡ ys ++ v ∷ [] → zs ≡ xs ++ table (i + 1) f
+  values_more i e v z = rw (z, e, v, table_more i f) (append_assoc xs (table i f) (f i ∷ []))
 
-  pub spell_start : (xs : List A) (at : ℕ) (ys : List ℕ) → Puts at (spelled text (take 0 xs)) ys at ys
-  unfolding spelled
-  spell_start xs at ys = record { list = sym (over_none at ys); place = omega arith }
+  -- n is how many there are, or how many have room
+  pub values_all : (m : ℕ) {n i : ℕ} (r : ℕ) {ys : List A} → ys ≡ xs ++ table i f → i ≤ n → n ≤ i → r + length xs ≡ N → n ≡ min m r → ys ≡ take N (xs ++ table m f)
+  values_all m {n} {i} r e a b h w =
+      let k : i ≡ min m r = omega arith in
+      let whole : N ≡ length xs + r = omega arith in
+      rw (e, k, whole, take-append-add xs (table m f) r, take_of_table r m f) refl
 
-  pub spell_again : (xs : List A) (i : ℕ) (d : A) {at : ℕ} {ys zs vs t : List ℕ} {r q : ℕ} → Puts at (spelled text (take i xs)) ys r zs → i < length xs
-      → t ≡ text (get_or xs i d) → Puts r t zs q vs → Puts at (spelled text (take (i + 1) xs)) ys q vs
-  spell_again xs i d p h e w = rw (add-one i, spelled_more xs i d h, ← e) (puts_more p w)
+  -- there is room for one more
+  pub values_room : {n i : ℕ} (m r : ℕ) {ys : List A} → ys ≡ xs ++ table i f → i < n → r + length xs ≡ N → n ≡ min m r → length ys < N
+  values_room {n} {i} m r e h k w = rw (e, length-append xs (table i f), length_table i f) (omega arith)
 
-  pub spell_next : (xs : List A) (i : ℕ) (d : A) {at : ℕ} {ys zs vs : List ℕ} {r q : ℕ} → Puts at (spelled text (take i xs)) ys r zs → i < length xs
-      → Puts r (text (get_or xs i d)) zs q vs → Puts at (spelled text (take (i + 1) xs)) ys q vs
-  spell_next xs i d p h w = spell_again xs i d p h refl w
-
-pub ruleset putting = (fill_start, fill_again, fill_done, fill_counts, fill_takes, spell_start, spell_again, spell_next, rules)
+pub ruleset putting = (put_is, spell_none, spell_one, spell_next, spell_all, values_none, values_more, values_all, values_room, rules)

@@ -1,5 +1,6 @@
 -- Words and bytes as they are written: lower case, all digits, `-` for none.
-use Rattle.std.specs.Prelude.{ℕ, ◌+◌, ◌/◌, ◌%◌, cond, List, [], ◌∷◌, ◌++◌, ltb, Float}
+use Rattle.std.specs.Prelude.{ℕ, ◌+◌, ◌/◌, ◌%◌, cond, List, [], ◌∷◌, ltb, Float}
+use Rattle.std.specs.List.{flat_map}
 use Rattle.std.specs.Float.{binary32}
 use Rattle.std.specs.Float.Ieee.{to_bits}
 
@@ -22,18 +23,13 @@ word_text w =
     ∷ glyph_of (w % 16)
     ∷ []
 
--- the texts of a list's members, one after the other
-unfoldable pub spelled : {A : Type 0} → (A → List ℕ) → List A → List ℕ
-spelled text [] = []
-spelled text (x ∷ xs) = text x ++ spelled text xs
-
--- `-` where there are none
-abbrev pub or_dash : {A : Type 0} → List A → List ℕ → List ℕ
-or_dash [] text = 45 ∷ []
-or_dash (x ∷ xs) text = text
+-- the texts of a list's members, one after the other; `-` where there are none
+abbrev pub or_dash : {A : Type 0} → (A → List ℕ) → List A → List ℕ
+or_dash text [] = 45 ∷ []
+or_dash text (x ∷ xs) = flat_map text (x ∷ xs)
 
 abbrev pub bytes_text : List ℕ → List ℕ
-bytes_text bs = or_dash bs (spelled byte_text bs)
+bytes_text bs = or_dash byte_text bs
 
 abbrev pub samples_text : List Float → List ℕ
-samples_text xs = or_dash xs (spelled (λ x. word_text (to_bits binary32 x)) xs)
+samples_text xs = or_dash (λ x. word_text (to_bits binary32 x)) xs

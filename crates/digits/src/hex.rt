@@ -1,11 +1,11 @@
 // Hexadecimal digits of either case, highest first.
 
-ghost use Rattle.std.specs.Prelude.{◌≡◌, ◌<◌};
+ghost use Rattle.std.specs.Prelude.{◌≡◌, ◌<◌, ◌++◌, take};
 ghost use Rattle.std.specs.Float.{binary32};
 ghost use Rattle.std.specs.Float.Ieee.{of_bits};
 ghost use Rattle.digits.specs.Hex.{hex_digit, all_hex, pair_of, byte_from, hex_word, bytes_of, samples_of};
-ghost use Rattle.lists.specs.Over.{Puts};
-ghost use Rattle.digits.specs.Place.{Counts};
+
+use arrayvec::ArrayVec;
 
 fn digit(b: u8) -> Option<u8>
     ensures { result ≡ hex_digit b }
@@ -59,26 +59,22 @@ pub fn sample(s: &[u8], at: usize) -> f32
     words::word_to_f32(word(s, at))
 }
 
-// The bytes of the text, as far as `out` has places; the answer counts them.
-pub fn bytes(s: &[u8], out: &mut [u8]) -> usize
-    ensures puts { Puts 0 (bytes_of s.now) out.old result out.new }
-    ensures counts { Counts result out.new }
+// The bytes of the text, put behind what `out` holds as far as there is room.
+pub fn bytes<const N: usize>(s: &[u8], out: &mut ArrayVec<u8, N>)
+    ensures { out.new.items ≡ take N (out.old.items ++ bytes_of s.now) }
 {
-    let n = filter_core::shortest(s.len() / 2, out.len());
+    let n = (s.len() / 2).min(out.remaining_capacity());
     for i in 0..n {
-        out[i] = byte(s, 2 * i, 0);
+        out.push(byte(s, 2 * i, 0));
     }
-    n
 }
 
 // The samples of the text, likewise.
-pub fn samples(s: &[u8], out: &mut [f32]) -> usize
-    ensures puts { Puts 0 (samples_of s.now) out.old result out.new }
-    ensures counts { Counts result out.new }
+pub fn samples<const N: usize>(s: &[u8], out: &mut ArrayVec<f32, N>)
+    ensures { out.new.items ≡ take N (out.old.items ++ samples_of s.now) }
 {
-    let n = filter_core::shortest(s.len() / 8, out.len());
+    let n = (s.len() / 8).min(out.remaining_capacity());
     for i in 0..n {
-        out[i] = sample(s, 8 * i);
+        out.push(sample(s, 8 * i));
     }
-    n
 }

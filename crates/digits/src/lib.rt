@@ -7,5 +7,4 @@ mod output;
 
 pub use decimal::number_of;
 pub use hex::{all_hex, bytes, sample, samples};
-pub use lists::put;
-pub use output::{put_bytes, put_samples, put_word};
+pub use output::{Hexadecimal, put, put_all};

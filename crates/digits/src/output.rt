@@ -1,12 +1,11 @@
-// Text put into a buffer from a place on. What has no room is left out; the answer is the place behind.
+// Text put behind what a buffer holds. What has no room is left out.
 
-ghost use Rattle.std.specs.Prelude.{◌≡◌, ◌<◌};
+ghost use Rattle.std.specs.Prelude.{◌≡◌, ℕ, ◌<◌, List, ◌++◌, take};
 ghost use Rattle.std.specs.Float.{binary32};
 ghost use Rattle.std.specs.Float.Ieee.{to_bits};
-ghost use Rattle.lists.specs.Over.{Puts};
-ghost use Rattle.digits.specs.Text.{glyph_of, byte_text, word_text, bytes_text, samples_text};
+ghost use Rattle.digits.specs.Text.{glyph_of, byte_text, word_text, or_dash};
 
-use lists::put;
+use arrayvec::ArrayVec;
 
 fn glyph(d: u32) -> u8
     requires { d < 16 }
@@ -41,37 +40,52 @@ fn word_text(w: u32) -> [u8; 8]
     ]
 }
 
-pub fn put_word(x: f32, out: &mut [u8], at: usize) -> usize
-    ensures { Puts at (word_text (to_bits binary32 x)) out.old result out.new }
+pub fn put<const N: usize>(text: &mut ArrayVec<u8, N>, bytes: &[u8])
+    ensures { text.new.items ≡ take N (text.old.items ++ bytes.now) }
 {
-    let text = word_text(words::f32_to_word(x));
-    put(&text, out, at)
+    let n = bytes.len().min(text.remaining_capacity());
+    let _ = text.try_extend_from_slice(&bytes[..n]);
 }
 
-// `-` for none.
-pub fn put_bytes(bytes: &[u8], out: &mut [u8], at: usize) -> usize
-    ensures { Puts at (bytes_text bytes.now) out.old result out.new }
-{
-    if bytes.is_empty() {
-        return put(b"-", out, at);
-    }
-    let mut to = at;
-    for &b in bytes {
-        to = put(&byte_text(b), out, to);
-    }
-    to
+// What is written as hexadecimal digits, eight at most.
+pub trait Hexadecimal: Copy {
+    ghost text: { Self → List ℕ };
+
+    fn text(self) -> ArrayVec<u8, 8>
+        ensures { result.items ≡ text self };
 }
 
-// `-` for none.
-pub fn put_samples(samples: &[f32], out: &mut [u8], at: usize) -> usize
-    ensures { Puts at (samples_text samples.now) out.old result out.new }
+impl Hexadecimal for u8 {
+    ghost text = { λ b. byte_text b };
+
+    fn text(self) -> ArrayVec<u8, 8> {
+        let mut text = ArrayVec::new();
+        put(&mut text, &byte_text(self));
+        text
+    }
+}
+
+impl Hexadecimal for f32 {
+    ghost text = { λ x. word_text (to_bits binary32 x) };
+
+    fn text(self) -> ArrayVec<u8, 8> {
+        let mut text = ArrayVec::new();
+        put(&mut text, &word_text(words::f32_to_word(self)));
+        text
+    }
+}
+
+// One after the other; `-` for none.
+pub fn put_all<T: Hexadecimal, const N: usize>(out: &mut ArrayVec<u8, N>, items: &[T])
+    ensures { out.new.items ≡ take N (out.old.items ++ or_dash T.text items.now) }
 {
-    if samples.is_empty() {
-        return put(b"-", out, at);
+    match items.split_first() {
+        Some((first, rest)) => {
+            put(out, first.text().as_slice());
+            for item in rest {
+                put(out, item.text().as_slice());
+            }
+        }
+        None => put(out, b"-"),
     }
-    let mut to = at;
-    for &x in samples {
-        to = put_word(x, out, to);
-    }
-    to
 }

@@ -1,172 +1,163 @@
 // A line is read, its call made, and its answer put into the output.
 
 use crate::faults;
-use crate::samples::{run, run_two};
 use crate::text::{
-    put_bad_line, put_counted, put_head, put_keyword, put_long_line, put_number, put_part,
-    put_written,
+    Output, put_bad_line, put_counted, put_head, put_keyword, put_long_line, put_number, put_part,
+    put_run, put_two, put_written,
 };
+use arrayvec::ArrayVec;
 use call_text::{BadLine, Call};
-use frame::{Answer, Frame};
+use frame::Frame;
+use runs::RunForm;
 use sheets::Edition;
 
-// The frame after a line, and the place behind its answer in the output.
-#[derive(Clone, Copy)]
-pub(crate) struct Answered {
-    pub(crate) frame: Frame,
-    pub(crate) at: usize,
+// ---- the buffers of a call
+
+fn bytes_of(field: &[u8]) -> ArrayVec<u8, 4096> {
+    let mut bytes = ArrayVec::new();
+    digits::bytes(field, &mut bytes);
+    bytes
 }
 
-// The same frame, with another place behind its answer.
-fn ending(mut now: Answered, at: usize) -> Answered {
-    now.at = at;
-    now
+fn samples_of(field: &[u8]) -> ArrayVec<f32, 1024> {
+    let mut samples = ArrayVec::new();
+    digits::samples(field, &mut samples);
+    samples
 }
 
-fn plain(answer: Answer, out: &mut [u8], at: usize) -> Answered {
-    let frame = answer.frame;
-    let to = put_number(answer.number, out, at);
-    Answered { frame, at: to }
+// ---- the calls that lend one to write to
+
+fn run(
+    frame: &mut Frame,
+    head: usize,
+    form: RunForm,
+    input: &[u8],
+    output: &[u8],
+    out: &mut Output,
+) {
+    let input = samples_of(input);
+    let mut output = samples_of(output);
+    let answer = frame.run(head, form, input.as_slice(), output.as_mut_slice());
+    put_run(out, answer, output.as_slice());
 }
 
-fn mark(now: Answered, head: usize, out: &mut [u8]) -> Answered {
-    let answer = now.frame.mark(head);
-    let frame = answer.frame;
-    let at = put_counted(answer.number, answer.mark, out, now.at);
-    Answered { frame, at }
+fn run_two(
+    frame: &mut Frame,
+    head: usize,
+    form: RunForm,
+    input: &[u8],
+    outputs: (&[u8], &[u8]),
+    out: &mut Output,
+) {
+    let input = samples_of(input);
+    let mut first = samples_of(outputs.0);
+    let mut second = samples_of(outputs.1);
+    let answer = frame.run_two(
+        head,
+        form,
+        input.as_slice(),
+        first.as_mut_slice(),
+        second.as_mut_slice(),
+    );
+    put_two(out, answer, first.as_slice(), second.as_slice());
 }
 
-fn head(now: Answered, head: usize, out: &mut [u8]) -> Answered {
-    let answer = now.frame.show(head);
-    let frame = answer.frame;
-    let at = put_head(answer.number, answer.head, out, now.at);
-    Answered { frame, at }
+fn write(frame: &Frame, output: &[u8], out: &mut Output) {
+    let mut output = bytes_of(output);
+    let answer = frame.write(output.as_mut_slice());
+    put_written(out, answer, output.as_slice());
 }
 
-fn count(now: Answered, head: usize, out: &mut [u8]) -> Answered {
-    let answer = now.frame.count(head);
-    let frame = answer.frame;
-    let at = put_counted(answer.number, answer.count as usize, out, now.at);
-    Answered { frame, at }
+fn convert(wanted: Edition, sheet: &[u8], output: &[u8], out: &mut Output) {
+    let sheet = bytes_of(sheet);
+    let mut output = bytes_of(output);
+    let answer = conversion::convert(wanted, sheet.as_slice(), output.as_mut_slice());
+    put_written(out, answer, output.as_slice());
 }
 
-fn open(now: Answered, sheet: &[u8], out: &mut [u8]) -> Answered {
-    let mut bytes = [0u8; 4096];
-    let n = digits::bytes(sheet, &mut bytes);
-    plain(now.frame.open(&bytes[..n]), out, now.at)
+// ---- the calls over a sheet, which touch no frame
+
+fn check(sheet: &[u8], entry: usize, out: &mut Output) {
+    put_number(out, sheets::check_entry(bytes_of(sheet).as_slice(), entry));
 }
 
-fn write(now: Answered, output: &[u8], out: &mut [u8]) -> Answered {
-    let mut bytes = [0u8; 4096];
-    let n = digits::bytes(output, &mut bytes);
-    let answer = now.frame.write(&mut bytes[..n]);
-    let frame = answer.frame;
-    let at = put_written(answer.number, answer.length, &bytes[..n], out, now.at);
-    Answered { frame, at }
+fn lookup(sheet: &[u8], entry: usize, out: &mut Output) {
+    put_part(out, sheets::lookup(bytes_of(sheet).as_slice(), entry));
 }
 
-fn check(sheet: &[u8], entry: usize, out: &mut [u8], at: usize) -> usize {
-    let mut bytes = [0u8; 4096];
-    let n = digits::bytes(sheet, &mut bytes);
-    put_number(sheets::check_entry(&bytes[..n], entry), out, at)
+fn check_edition_one(sheet: &[u8], entry: usize, out: &mut Output) {
+    let sheet = bytes_of(sheet);
+    put_number(
+        out,
+        sheets::check_entry_edition_one(sheet.as_slice(), entry),
+    );
 }
 
-fn lookup(sheet: &[u8], entry: usize, out: &mut [u8], at: usize) -> usize {
-    let mut bytes = [0u8; 4096];
-    let n = digits::bytes(sheet, &mut bytes);
-    put_part(sheets::lookup(&bytes[..n], entry), out, at)
+fn lookup_edition_one(sheet: &[u8], entry: usize, out: &mut Output) {
+    let sheet = bytes_of(sheet);
+    put_part(out, sheets::lookup_edition_one(sheet.as_slice(), entry));
 }
 
-fn check_edition_one(sheet: &[u8], entry: usize, out: &mut [u8], at: usize) -> usize {
-    let mut bytes = [0u8; 4096];
-    let n = digits::bytes(sheet, &mut bytes);
-    put_number(sheets::check_entry_edition_one(&bytes[..n], entry), out, at)
-}
-
-fn lookup_edition_one(sheet: &[u8], entry: usize, out: &mut [u8], at: usize) -> usize {
-    let mut bytes = [0u8; 4096];
-    let n = digits::bytes(sheet, &mut bytes);
-    put_part(sheets::lookup_edition_one(&bytes[..n], entry), out, at)
-}
-
-fn convert(wanted: Edition, sheet: &[u8], output: &[u8], out: &mut [u8], at: usize) -> usize {
-    let mut bytes = [0u8; 4096];
-    let mut converted = [0u8; 4096];
-    let n = digits::bytes(sheet, &mut bytes);
-    let m = digits::bytes(output, &mut converted);
-    let answer = conversion::convert(wanted, &bytes[..n], &mut converted[..m]);
-    put_written(answer.number, answer.length, &converted[..m], out, at)
-}
-
-fn of_call(call: Call<&[u8]>, now: Answered, out: &mut [u8]) -> Answered {
+fn of_call(call: Call<&[u8]>, frame: &mut Frame, out: &mut Output) {
     match call {
-        Call::Open(sheet) => open(now, sheet, out),
-        Call::Load { head, entry } => plain(now.frame.load(head, entry), out, now.at),
+        Call::Open(sheet) => put_number(out, frame.open(bytes_of(sheet).as_slice())),
+        Call::Load { head, entry } => put_number(out, frame.load(head, entry)),
         Call::Run {
             head,
             form,
             input,
             output,
-        } => run(now, head, form, input, output, out),
+        } => run(frame, head, form, input, output, out),
         Call::Two {
             head,
             form,
             input,
             first,
             second,
-        } => run_two(now, head, form, input, first, second, out),
-        Call::Rest(h) => plain(now.frame.rest(h), out, now.at),
-        Call::Mark(h) => mark(now, h, out),
-        Call::Back { head, mark } => plain(now.frame.back(head, mark), out, now.at),
-        Call::Drop { head, mark } => plain(now.frame.drop(head, mark), out, now.at),
-        Call::Write(output) => write(now, output, out),
-        Call::Check { sheet, entry } => ending(now, check(sheet, entry, out, now.at)),
-        Call::Lookup { sheet, entry } => ending(now, lookup(sheet, entry, out, now.at)),
-        Call::Head(h) => head(now, h, out),
-        Call::Check1 { sheet, entry } => ending(now, check_edition_one(sheet, entry, out, now.at)),
-        Call::Lookup1 { sheet, entry } => {
-            ending(now, lookup_edition_one(sheet, entry, out, now.at))
-        }
+        } => run_two(frame, head, form, input, (first, second), out),
+        Call::Rest(head) => put_number(out, frame.rest(head)),
+        Call::Mark(head) => put_counted(out, frame.mark(head)),
+        Call::Back { head, mark } => put_number(out, frame.back(head, mark)),
+        Call::Drop { head, mark } => put_number(out, frame.drop(head, mark)),
+        Call::Write(output) => write(frame, output, out),
+        Call::Check { sheet, entry } => check(sheet, entry, out),
+        Call::Lookup { sheet, entry } => lookup(sheet, entry, out),
+        Call::Head(head) => put_head(out, frame.show(head)),
+        Call::Check1 { sheet, entry } => check_edition_one(sheet, entry, out),
+        Call::Lookup1 { sheet, entry } => lookup_edition_one(sheet, entry, out),
         Call::Convert {
             wanted,
             sheet,
             output,
-        } => ending(now, convert(wanted, sheet, output, out, now.at)),
-        Call::Count(h) => count(now, h, out),
+        } => convert(wanted, sheet, output, out),
+        Call::Count(head) => put_counted(out, frame.count(head).map(|n| n as usize)),
     }
 }
 
-fn bad_line(
-    rt: HostRuntime,
-    now: Answered,
-    lines: usize,
-    line: &[u8],
-    why: BadLine,
-    out: &mut [u8],
-) -> Answered {
+fn bad_line(rt: HostRuntime, lines: usize, line: &[u8], why: BadLine, out: &mut Output) {
     faults::bad_line(rt, lines, line, why);
-    ending(now, put_bad_line(out, now.at))
-}
-
-fn long_line(rt: HostRuntime, now: Answered, lines: usize, out: &mut [u8]) -> Answered {
-    faults::long_line(rt, lines);
-    ending(now, put_long_line(out, now.at))
+    put_bad_line(out);
 }
 
 // `lines` is the line's number.
 pub(crate) fn answer(
     rt: HostRuntime,
-    now: Answered,
+    frame: &mut Frame,
     lines: usize,
     line: &[u8],
-    out: &mut [u8],
-) -> Answered {
+    out: &mut Output,
+) {
     if 65535 < line.len() {
-        return long_line(rt, now, lines, out);
+        faults::long_line(rt, lines);
+        put_long_line(out);
+        return;
     }
     match call_text::call_of(line) {
-        Ok(None) => now,
-        Err(why) => bad_line(rt, now, lines, line, why, out),
-        Ok(Some(call)) => of_call(call, ending(now, put_keyword(line, out, now.at)), out),
+        Ok(None) => {}
+        Err(why) => bad_line(rt, lines, line, why, out),
+        Ok(Some(call)) => {
+            put_keyword(out, line);
+            of_call(call, frame, out);
+        }
     }
 }

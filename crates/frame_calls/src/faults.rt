@@ -1,61 +1,43 @@
 // What is wrong with a line, for people: a line on standard error, by one write, so that nothing tears it. That it cannot be written
 // changes nothing.
 
-use crate::text::number;
+use crate::text::put_usize;
+use arrayvec::ArrayVec;
 use call_text::BadLine;
+use digits::put;
 use std::io::Write;
 
-fn put_why(why: BadLine, out: &mut [u8], at: usize) -> usize {
-    match why {
-        BadLine::NoCall => digits::put(
-            b"its first word is no call: docs/REFERENCE.md lists the calls\n",
-            out,
-            at,
-        ),
-        BadLine::Words => digits::put(
-            b"the words behind the call do not fit it: docs/REFERENCE.md says what it takes\n",
-            out,
-            at,
-        ),
-    }
-}
+type Fault = ArrayVec<u8, 160>;
 
-fn put_fault(line: &[u8], why: BadLine, out: &mut [u8], at: usize) -> usize {
+fn why(line: &[u8], why: BadLine) -> &'static [u8] {
     if line.last() == Some(&b'\r') {
-        return digits::put(
-            b"it ends in a carriage return (a file from Windows?): take them out with tr -d '\\r'\n",
-            out,
-            at,
-        );
+        return b"it ends in a carriage return (a file from Windows?): take them out with tr -d '\\r'\n";
     }
-    put_why(why, out, at)
+    match why {
+        BadLine::NoCall => b"its first word is no call: docs/REFERENCE.md lists the calls\n",
+        BadLine::Words => {
+            b"the words behind the call do not fit it: docs/REFERENCE.md says what it takes\n"
+        }
+    }
 }
 
-fn put_place(lines: usize, out: &mut [u8]) -> usize {
-    let a = digits::put(b"frame_calls: line ", out, 0);
-    let b = number(lines, out, a);
-    digits::put(b": ", out, b)
+fn say(rt: HostRuntime, lines: usize, what: &[u8]) {
+    let mut text = Fault::new();
+    put(&mut text, b"frame_calls: line ");
+    put_usize(&mut text, lines);
+    put(&mut text, b": ");
+    put(&mut text, what);
+    let _ = rt.stderr().write(text.as_slice());
 }
 
-fn say(rt: HostRuntime, text: &[u8], at: usize) {
-    let n = streams::within(at, text);
-    let _ = rt.stderr().write(&text[..n]);
-}
-
-pub(crate) fn bad_line(rt: HostRuntime, lines: usize, line: &[u8], why: BadLine) {
-    let mut text = [0u8; 160];
-    let a = put_place(lines, &mut text);
-    let b = put_fault(line, why, &mut text, a);
-    say(rt, &text, b);
+pub(crate) fn bad_line(rt: HostRuntime, lines: usize, line: &[u8], reason: BadLine) {
+    say(rt, lines, why(line, reason));
 }
 
 pub(crate) fn long_line(rt: HostRuntime, lines: usize) {
-    let mut text = [0u8; 160];
-    let a = put_place(lines, &mut text);
-    let b = digits::put(
+    say(
+        rt,
+        lines,
         b"it has more than 65,535 bytes, and is passed over\n",
-        &mut text,
-        a,
     );
-    say(rt, &text, b);
 }

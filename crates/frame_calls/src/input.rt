@@ -1,8 +1,9 @@
 // The reading loop: lines out of what each read brings, and an unfinished line held until the next.
 
-use crate::answers::{Answered, answer};
-use crate::output::{send, send_if_enough};
-use crate::{faults, text};
+use crate::answers::answer;
+use crate::faults;
+use crate::output::{flush, flush_if_enough};
+use crate::text::{Output, put_long_line};
 use frame::Frame;
 use std::io;
 
@@ -11,20 +12,12 @@ const LONGEST: usize = 65535;
 
 // What goes from one read to the next: the frame, how many lines there were, how many bytes of an unfinished line stand at the start of the
 // buffer, and whether the rest of a long line is still to be passed over.
-#[derive(Clone, Copy)]
-struct State {
+#[derive(Drop)]
+struct Session {
     frame: Frame,
     lines: usize,
     held: usize,
     skipping: bool,
-}
-
-// How far the lines of a text were answered.
-#[derive(Clone, Copy)]
-struct Taken {
-    frame: Frame,
-    lines: usize,
-    used: usize,
 }
 
 // Where the lines begin: past the rest of a long line, if there is one. None where that line goes on behind the text.
@@ -33,38 +26,6 @@ fn lines_begin(text: &[u8], skipping: bool) -> Option<usize> {
         return Some(0);
     }
     Some(scan::find(text, 0, b'\n')? + 1)
-}
-
-// Answers every whole line of the text from the place `start` on, unless the output takes no more.
-fn take_lines(
-    rt: HostRuntime,
-    state: State,
-    start: usize,
-    text: &[u8],
-    out: &mut [u8],
-) -> Option<Taken> {
-    let frame = state.frame;
-    let mut now = Answered { frame, at: 0 };
-    let mut lines = state.lines;
-    let mut from = start;
-    while let Some(end) = scan::find(text, from, b'\n') {
-        let line = &text[from..end];
-        from = end + 1;
-        // The count stays at the greatest number, if a run should ever come there.
-        lines = lines.saturating_add(1);
-        now = answer(rt, now, lines, line, out);
-        let at = send_if_enough(rt, out, now.at)?;
-        now.at = at;
-    }
-    if !send(rt, out, now.at) {
-        return None;
-    }
-    let last = now.frame;
-    Some(Taken {
-        frame: last,
-        lines,
-        used: from,
-    })
 }
 
 // Reads once behind what is held, and answers how many bytes there are then.
@@ -85,86 +46,96 @@ fn keep(buffer: &mut [u8], from: usize, end: usize) -> usize {
     end - from
 }
 
-// The input has ended. The last line may lack its line feed.
-fn last(rt: HostRuntime, state: State, buffer: &[u8], out: &mut [u8]) {
-    let frame = state.frame;
-    let n = streams::within(state.held, buffer);
-    let now = Answered { frame, at: 0 };
-    let answered = answer(rt, now, state.lines.saturating_add(1), &buffer[..n], out);
-    send(rt, out, answered.at);
-}
-
-// A line was too long before its end came, of which the rest is to be passed over.
-fn skip(rt: HostRuntime, taken: Taken, out: &mut [u8]) -> Option<State> {
-    let frame = taken.frame;
-    let lines = taken.lines.saturating_add(1);
-    faults::long_line(rt, lines);
-    let at = text::put_long_line(out, 0);
-    if !send(rt, out, at) {
-        return None;
+// Each step answers None where nothing more is to be read: the input has ended or failed, or the output takes no more.
+impl Session {
+    // The count of lines stays at the greatest number, if a run should ever come there.
+    fn next_line(&mut self) -> usize {
+        self.lines = self.lines.saturating_add(1);
+        self.lines
     }
-    Some(State {
-        frame,
-        lines,
-        held: 0,
-        skipping: true,
-    })
-}
 
-// Answers the lines that are whole of the buffer's first bytes, up to `end`, and holds the rest. That may be too long already.
-fn take(
-    rt: HostRuntime,
-    state: State,
-    end: usize,
-    buffer: &mut [u8],
-    out: &mut [u8],
-) -> Option<State> {
-    let n = streams::within(end, buffer);
-    let start = lines_begin(&buffer[..n], state.skipping);
-    let taken = take_lines(rt, state, start.unwrap_or(n), &buffer[..n], out)?;
-    let held = keep(buffer, taken.used, n);
-    if LONGEST < held {
-        return skip(rt, taken, out);
-    }
-    let frame = taken.frame;
-    Some(State {
-        frame,
-        lines: taken.lines,
-        held,
-        skipping: start.is_none(),
-    })
-}
-
-// Reads once, and answers what there is then. None where nothing more is to be read: the input has ended or failed, or the output takes no
-// more. A line that a failed read cuts off gets no answer.
-fn step(rt: HostRuntime, state: State, buffer: &mut [u8], out: &mut [u8]) -> Option<State> {
-    match fill(rt, buffer, state.held) {
-        Ok(end) => {
-            if end == state.held {
-                last(rt, state, buffer, out);
-                return None;
-            }
-            take(rt, state, end, buffer, out)
+    // Answers every whole line of the text from the place `start` on, and answers where the rest begins.
+    fn take_lines(
+        &mut self,
+        rt: HostRuntime,
+        start: usize,
+        text: &[u8],
+        out: &mut Output,
+    ) -> Option<usize> {
+        let mut from = start;
+        while let Some(end) = scan::find(text, from, b'\n') {
+            let line = &text[from..end];
+            from = end + 1;
+            let lines = self.next_line();
+            answer(rt, &mut self.frame, lines, line, out);
+            flush_if_enough(rt, out)?;
         }
-        Err(error) => {
-            let _ = eprintln!(rt; "frame_calls: cannot read the calls: {error}");
-            None
+        flush(rt, out)?;
+        Some(from)
+    }
+
+    // The input has ended. The last line may lack its line feed.
+    fn last(&mut self, rt: HostRuntime, buffer: &[u8], out: &mut Output) -> Option<()> {
+        let n = streams::within(self.held, buffer);
+        let lines = self.next_line();
+        answer(rt, &mut self.frame, lines, &buffer[..n], out);
+        flush(rt, out)?;
+        None
+    }
+
+    // Holds a line that has not ended. One that is too long already is passed over with its rest.
+    fn hold(&mut self, rt: HostRuntime, held: usize, out: &mut Output) -> Option<()> {
+        if held <= LONGEST {
+            self.held = held;
+            return Some(());
+        }
+        self.held = 0;
+        self.skipping = true;
+        let lines = self.next_line();
+        faults::long_line(rt, lines);
+        put_long_line(out);
+        flush(rt, out)
+    }
+
+    // Answers the lines that are whole of the buffer's first bytes, up to `end`, and holds the rest.
+    fn take(
+        &mut self,
+        rt: HostRuntime,
+        end: usize,
+        buffer: &mut [u8],
+        out: &mut Output,
+    ) -> Option<()> {
+        let n = streams::within(end, buffer);
+        let start = lines_begin(&buffer[..n], self.skipping);
+        self.skipping = start.is_none();
+        let from = self.take_lines(rt, start.unwrap_or(n), &buffer[..n], out)?;
+        self.hold(rt, keep(buffer, from, n), out)
+    }
+
+    // Reads once, and answers what there is then. A line that a failed read cuts off gets no answer.
+    fn step(&mut self, rt: HostRuntime, buffer: &mut [u8], out: &mut Output) -> Option<()> {
+        match fill(rt, buffer, self.held) {
+            Ok(end) if end == self.held => self.last(rt, buffer, out),
+            Ok(end) => self.take(rt, end, buffer, out),
+            Err(error) => {
+                let _ = eprintln!(rt; "frame_calls: cannot read the calls: {error}");
+                None
+            }
         }
     }
 }
 
 // A proved loop has to end, and nothing says that the input does. So the loop has a number of turns that no run uses up.
-pub(crate) fn serve(rt: HostRuntime, buffer: &mut [u8], out: &mut [u8]) {
-    let mut state = State {
+pub(crate) fn serve(rt: HostRuntime, buffer: &mut [u8], out: &mut Output) {
+    let mut session = Session {
         frame: Frame::fresh(),
         lines: 0,
         held: 0,
         skipping: false,
     };
     for _ in 0..u64::MAX {
-        let Some(next) = step(rt, state, buffer, out) else {
+        if session.step(rt, buffer, out).is_none() {
             return;
-        };
-        state = next;
+        }
     }
 }

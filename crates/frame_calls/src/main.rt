@@ -8,11 +8,11 @@ mod faults;
 mod help;
 mod input;
 mod output;
-mod samples;
 mod shown;
 mod text;
 
 use std::env::{Env, FillError};
+use text::Output;
 
 // Whether the program was started with an argument behind its name, of whatever bytes.
 fn has_argument(rt: HostRuntime) -> bool {
@@ -23,14 +23,13 @@ fn has_argument(rt: HostRuntime) -> bool {
     }
 }
 
-// The input has room for a line of the greatest length and its line feed, the output for the answers that wait and one more, the longest of
-// which takes less than 32,768 bytes.
+// The input has room for a line of the greatest length and its line feed.
 fn main(rt: HostRuntime) {
     if has_argument(rt) {
         help::print(rt);
         return;
     }
     let mut buffer = [0u8; 65536];
-    let mut out = [0u8; 40960];
+    let mut out = Output::new();
     input::serve(rt, &mut buffer, &mut out);
 }

@@ -1,116 +1,109 @@
 // The text of an answer: the line's keyword, which is put before the call is made, then the refusal's number and what the call hands back.
 
+use arrayvec::ArrayVec;
+use digits::put;
+use filter_core::Refusal;
 use form_text::Fields;
 use heads::Head;
 
-pub(crate) fn number(n: usize, out: &mut [u8], at: usize) -> usize {
+// The answers that wait and one more, the longest of which takes less than 32,768 bytes.
+pub(crate) type Output = ArrayVec<u8, 40960>;
+
+pub(crate) fn put_usize<const N: usize>(out: &mut ArrayVec<u8, N>, n: usize) {
     let mut digits = [0u8; 20];
     let k = io::decimal(n as u64, &mut digits);
-    digits::put(&digits[..k], out, at)
+    put(out, &digits[..k]);
 }
 
 fn keyword(line: &[u8]) -> &[u8] {
     Fields::of(line, b' ').next().unwrap_or(line)
 }
 
-// A space and the refusal's number.
-fn numbered(refusal: u8, out: &mut [u8], at: usize) -> usize {
-    let a = space(out, at);
-    number(usize::from(refusal), out, a)
+// A space and the refusal's number, 0 where the call is accepted.
+fn put_refusal<T: Copy>(out: &mut Output, answer: Result<T, Refusal>) {
+    let number = match answer {
+        Ok(_) => 0,
+        Err(refusal) => u8::from(refusal),
+    };
+    put(out, b" ");
+    put_usize(out, usize::from(number));
 }
 
-// A space and n, unless the call was refused.
-fn counted(refusal: u8, n: usize, out: &mut [u8], at: usize) -> usize {
-    if refusal != 0 {
-        return at;
+// The same, and what an accepted call hands back.
+fn put_answer(out: &mut Output, answer: Result<usize, Refusal>) {
+    put_refusal(out, answer);
+    if let Ok(n) = answer {
+        put(out, b" ");
+        put_usize(out, n);
     }
-    let a = space(out, at);
-    number(n, out, a)
 }
 
 // A space and the samples.
-fn spaced(samples: &[f32], out: &mut [u8], at: usize) -> usize {
-    let a = space(out, at);
-    digits::put_samples(samples, out, a)
+fn put_spaced(out: &mut Output, samples: &[f32]) {
+    put(out, b" ");
+    digits::put_all(out, samples);
 }
 
-fn space(out: &mut [u8], at: usize) -> usize {
-    digits::put(b" ", out, at)
+pub(crate) fn put_keyword(out: &mut Output, line: &[u8]) {
+    put(out, keyword(line));
 }
 
-fn ended(out: &mut [u8], at: usize) -> usize {
-    digits::put(b"\n", out, at)
+pub(crate) fn put_bad_line(out: &mut Output) {
+    put(out, b"? bad line\n");
 }
 
-pub(crate) fn put_keyword(line: &[u8], out: &mut [u8], at: usize) -> usize {
-    digits::put(keyword(line), out, at)
-}
-
-pub(crate) fn put_bad_line(out: &mut [u8], at: usize) -> usize {
-    digits::put(b"? bad line\n", out, at)
-}
-
-pub(crate) fn put_long_line(out: &mut [u8], at: usize) -> usize {
-    digits::put(b"? long line\n", out, at)
+pub(crate) fn put_long_line(out: &mut Output) {
+    put(out, b"? long line\n");
 }
 
 // An answer that is nothing but the number.
-pub(crate) fn put_number(refusal: u8, out: &mut [u8], at: usize) -> usize {
-    let a = numbered(refusal, out, at);
-    ended(out, a)
+pub(crate) fn put_number(out: &mut Output, answer: Result<(), Refusal>) {
+    put_refusal(out, answer);
+    put(out, b"\n");
 }
 
 // An answer that has a number of its own behind that of the refusal: a mark's, or a count.
-pub(crate) fn put_counted(refusal: u8, n: usize, out: &mut [u8], at: usize) -> usize {
-    let a = numbered(refusal, out, at);
-    let b = counted(refusal, n, out, a);
-    ended(out, b)
+pub(crate) fn put_counted(out: &mut Output, answer: Result<usize, Refusal>) {
+    put_answer(out, answer);
+    put(out, b"\n");
 }
 
-pub(crate) fn put_head(refusal: u8, head: Head, out: &mut [u8], at: usize) -> usize {
-    let a = numbered(refusal, out, at);
-    if refusal != 0 {
-        return ended(out, a);
+pub(crate) fn put_head(out: &mut Output, answer: Result<&Head, Refusal>) {
+    put_refusal(out, answer);
+    if let Ok(head) = answer {
+        crate::shown::put_head(out, head);
     }
-    let b = crate::shown::head(head, out, a);
-    ended(out, b)
+    put(out, b"\n");
 }
 
-pub(crate) fn put_written(
-    refusal: u8,
-    length: usize,
-    bytes: &[u8],
-    out: &mut [u8],
-    at: usize,
-) -> usize {
-    let a = numbered(refusal, out, at);
-    let b = counted(refusal, length, out, a);
-    let c = space(out, b);
-    let d = digits::put_bytes(bytes, out, c);
-    ended(out, d)
+pub(crate) fn put_written(out: &mut Output, answer: Result<usize, Refusal>, bytes: &[u8]) {
+    put_answer(out, answer);
+    put(out, b" ");
+    digits::put_all(out, bytes);
+    put(out, b"\n");
 }
 
-pub(crate) fn put_part(part: &[u8], out: &mut [u8], at: usize) -> usize {
-    let a = space(out, at);
-    let b = digits::put_bytes(part, out, a);
-    ended(out, b)
+// The part of a sheet that a lookup lends; none where it is refused.
+pub(crate) fn put_part(out: &mut Output, part: Result<&[u8], Refusal>) {
+    put(out, b" ");
+    digits::put_all(out, part.unwrap_or(b""));
+    put(out, b"\n");
 }
 
-pub(crate) fn put_run(refusal: u8, output: &[f32], out: &mut [u8], at: usize) -> usize {
-    let a = numbered(refusal, out, at);
-    let b = spaced(output, out, a);
-    ended(out, b)
+pub(crate) fn put_run(out: &mut Output, answer: Result<(), Refusal>, output: &[f32]) {
+    put_refusal(out, answer);
+    put_spaced(out, output);
+    put(out, b"\n");
 }
 
 pub(crate) fn put_two(
-    refusal: u8,
+    out: &mut Output,
+    answer: Result<(), Refusal>,
     first: &[f32],
     second: &[f32],
-    out: &mut [u8],
-    at: usize,
-) -> usize {
-    let a = numbered(refusal, out, at);
-    let b = spaced(first, out, a);
-    let c = spaced(second, out, b);
-    ended(out, c)
+) {
+    put_refusal(out, answer);
+    put_spaced(out, first);
+    put_spaced(out, second);
+    put(out, b"\n");
 }

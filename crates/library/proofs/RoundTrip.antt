@@ -20,7 +20,8 @@ use Rattle.sheets.proofs.Rows.{sheet_check}
 use Rattle.library.specs.Library.{count, none, stored_in, library_of, bytes_of, entry_from, entry_at, write_number}
 use Rattle.library.specs.RoundTrip.{Rewritten, ReadWrite, Reread, written_sheet, WriteRead, RefusedWrite, OneSheet, SameEntries}
 use Rattle.library.specs.declared.StoredEntry.{StoredEntry}
-use Rattle.library.proofs.Tables.{table_none, map_table, ones, twelves}
+use Rattle.library.proofs.Tables.{map_table, ones, twelves}
+use Rattle.lists.proofs.Tables.{table_none}
 use Rattle.library.proofs.Rows.{write_fits}
 
 -- ---- lists

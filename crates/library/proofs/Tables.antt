@@ -10,22 +10,9 @@ use Rattle.std.specs.List.{flat_map}
 use Rattle.lists.specs.Table.{table}
 use Rattle.lists.proofs.Tables.{length_table}
 
-table_suc : {A : Type 0} (n : ℕ) (f : ℕ → A) → table (suc n) f ≡ table n f ++ f n ∷ []
-unfolding table
-table_suc zero f = refl
-table_suc {A} (suc n) f = ap (λ (l : List A). f 0 ∷ l) (table_suc n (λ i. f (suc i)))
-
-pub table_none : {A : Type 0} (f : ℕ → A) → table 0 f ≡ []
-unfolding table
-table_none f = refl
-
 -- there is room for one more of as many as 64
 pub table_room : {A : Type 0} {n e : ℕ} (f : ℕ → A) {l : List A} → l ≡ table e f → e < n → n ≤ 64 → length l < 64
 table_room {n = n} {e = e} f q h k = rw (q, length_table e f) (omega arith)
-
--- one entry more
-pub table_more : {A : Type 0} (n : ℕ) (f : ℕ → A) → table (n + 1) f ≡ table n f ++ f n ∷ []
-table_more n f = rw add-one (table_suc n f)
 
 pub map_table : {A B : Type 0} (g : A → B) (n : ℕ) (f : ℕ → A) → map g (table n f) ≡ table n (λ i. g (f i))
 unfolding table

@@ -1,11 +1,13 @@
 -- The laws of `table`, the list of a function's first values. Assumes nothing.
-use Prim.Native.Nat.{ℕ, zero, suc, ◌≤◌, ◌<◌}
+use Prim.Native.Nat.{ℕ, zero, suc, ◌+◌, ◌≤◌, ◌<◌, min}
 use mathlib.Core.Path.{◌≡◌, refl, ap}
 use mathlib.Core.Bool.{cond}
-use mathlib.Core.List.{List, [], ◌∷◌, map}
+use mathlib.Core.List.{List, [], ◌∷◌, ◌++◌, map}
+use native.Mathlib.Numerals.{add-one}
 use native.Mathlib.Omega.{arith}
 use lib.ListN.{length, get_or, take, set}
 use lib.Dec.{eqb, eqb-suc-suc, eqb-zero-suc, eqb-suc-zero}
+use Rattle.std.proofs.Math.Nat.{suc-min-suc}
 use Rattle.lists.specs.Table.{table}
 
 module _ {A : Type 0} where
@@ -27,6 +29,25 @@ module _ {A : Type 0} where
       let p = h 0 (omega arith) in
       let q = table_ext n (λ j. f (suc j)) (λ j. g (suc j)) (λ i l. h (suc i) (omega arith)) in
       cc
+
+  table_suc : (n : ℕ) (f : ℕ → A) → table (suc n) f ≡ table n f ++ f n ∷ []
+  unfolding table
+  table_suc zero f = refl
+  table_suc (suc n) f = ap (λ (l : List A). f 0 ∷ l) (table_suc n (λ i. f (suc i)))
+
+  pub table_none : (f : ℕ → A) → table 0 f ≡ []
+  unfolding table
+  table_none f = refl
+
+  -- one value more
+  pub table_more : (n : ℕ) (f : ℕ → A) → table (n + 1) f ≡ table n f ++ f n ∷ []
+  table_more n f = rw add-one (table_suc n f)
+
+  pub take_of_table : (k n : ℕ) (f : ℕ → A) → take k (table n f) ≡ table (min n k) f
+  unfolding table
+  take_of_table zero n f = let e : min n 0 ≡ 0 = omega arith in rw e refl
+  take_of_table (suc k) zero f = let e : min 0 (suc k) ≡ 0 = omega arith in rw e refl
+  take_of_table (suc k) (suc n) f = rw suc-min-suc (ap (λ (l : List A). f 0 ∷ l) (take_of_table k n (λ i. f (suc i))))
 
   pub set_table : (n : ℕ) (f : ℕ → A) (i : ℕ) (v : A) → set (table n f) i v ≡ table n (λ j. cond (eqb j i) v (f j))
   unfolding table

@@ -1,5 +1,6 @@
 use Rattle.std.proofs.Common.{rules, refl, lit<}
-use Rattle.library.proofs.Tables.{table_none, table_more, table_room}
+use Rattle.library.proofs.Tables.{table_room}
+use Rattle.lists.proofs.Tables.{table_none, table_more}
 use Rattle.library.proofs.library_of.Goals as goal
 
 pub loop-e-init : goal.loop-e-init

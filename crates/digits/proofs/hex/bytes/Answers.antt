@@ -2,10 +2,13 @@ use Rattle.digits.proofs.Putting.{putting}
 use Rattle.digits.proofs.hex.bytes.Goals as goal
 
 pub loop-i-init : goal.loop-i-init
-loop-i-init c = search putting
+loop-i-init g c = search putting
+
+pub push-requires : goal.push-requires
+push-requires g c = search putting
 
 pub loop-i-preserved : goal.loop-i-preserved
-loop-i-preserved c = search putting
+loop-i-preserved g c = search putting
 
-pub returns-clause-puts : goal.returns-clause-puts
-returns-clause-puts c = search putting
+pub returns : goal.returns
+returns g c = search putting

@@ -1,6 +1,7 @@
-use Rattle.lists.proofs.Over.{Copied}
-use Rattle.digits.specs.Hex.{bytes_of}
+use Rattle.std.proofs.Common.{◌≡◌, ◌++◌}
+use Rattle.lists.specs.Table.{table}
+use Rattle.digits.specs.Hex.{byte_in}
 use Rattle.digits.proofs.hex.bytes.Given as goal
 
 abbrev pub invariant-loop-i : goal.invariant-loop-i
-invariant-loop-i l = Copied 0 (bytes_of l.s) l.initial.out l.n l.i l.out
+invariant-loop-i g l = l.out.items ≡ l.initial.out.items ++ table l.i (byte_in l.s)

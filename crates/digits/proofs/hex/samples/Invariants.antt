@@ -1,6 +1,7 @@
-use Rattle.lists.proofs.Over.{Copied}
-use Rattle.digits.specs.Hex.{samples_of}
+use Rattle.std.proofs.Common.{◌≡◌, ◌++◌}
+use Rattle.lists.specs.Table.{table}
+use Rattle.digits.specs.Hex.{sample_in}
 use Rattle.digits.proofs.hex.samples.Given as goal
 
 abbrev pub invariant-loop-i : goal.invariant-loop-i
-invariant-loop-i l = Copied 0 (samples_of l.s) l.initial.out l.n l.i l.out
+invariant-loop-i g l = l.out.items ≡ l.initial.out.items ++ table l.i (sample_in l.s)
