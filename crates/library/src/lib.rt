@@ -103,6 +103,7 @@ fn put_kinds(entries: &[StoredEntry], output: &mut [u8], from: usize) -> usize
     at
 }
 
+// The same for the settings. One function for both would take a closure, and a ghost function for its contract: it is longer than the two.
 fn put_settings(entries: &[StoredEntry], output: &mut [u8], from: usize) -> usize
     ensures { Puts from (flat_map (λ t. t.setting) entries.now) output.old result output.new }
 {

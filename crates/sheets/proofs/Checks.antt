@@ -110,13 +110,6 @@ fit_of n s = go (below l 2) (below n 1) (below 64 n) (same l (2 + 13 * n))
     go (inr a) (inr b) (inr c) (inl d) = fit (record { some = b; most = c; long = d }) (sym (size_fits l n a b c d))
     go (inr a) (inr b) (inr c) (inr d) = unfit (λ z. d z.long) (sym (size_other l n a b c d))
 
-fitting : (n : ℕ) (s : List ℕ) → size_refusal (length s) n ≡ 0 → Fits n s
-fitting n s h = go (fit_of n s)
-  where
-    go : Fit n s → Fits n s
-    go (fit z e) = z
-    go (unfit z e) = let w = sym e ∙ h in absurd (omega arith)
-
 pub too_many : (v : Edition) (n : ℕ) (s : List ℕ) → 64 < n → check_as v n s ≡ 2
 too_many v n s h = go (fit_of n s)
   where
