@@ -4,7 +4,6 @@
 ghost use Rattle.converted_loads.specs.ConvertedLoads.{ConvertedLoads};
 
 // Every entry number of either side gets the same number from a load, and puts the same filter into a head.
-#[tactic(auto, using(crate::proofs::Alike::converted_loads))]
 pub fn converted_loads()
     ensures { ConvertedLoads }
 {}
