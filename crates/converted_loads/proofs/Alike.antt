@@ -10,9 +10,9 @@ use Rattle.sheets.specs.Sheet.{entries_of, entry_in}
 use Rattle.sheets.specs.Rows.{Sheet}
 use Rattle.sheets.specs.declared.entry.Entry.{Entry}
 use Rattle.sheets.proofs.Rows.{sheet_check}
-use Rattle.library.specs.Library.{library_of, entry_at}
+use Rattle.library.specs.Library.{count, library_of, entry_at}
 use Rattle.library.specs.declared.Library.{Library}
-use Rattle.library.proofs.RoundTrip.{same_entries}
+use Rattle.library.proofs.RoundTrip.{count_in, same_entries}
 use Rattle.conversion.specs.Converted.{written_sheet, HasEntries}
 use Rattle.conversion.proofs.Rows.{taken}
 use Rattle.conversion.proofs.Converted.{accepted_converted}
@@ -33,15 +33,15 @@ use Rattle.converted_loads.specs.ConvertedLoads.{load_from, loaded_from, LoadsAl
 abbrev load : Frame → Library → ℕ → ℕ → Reply × List Head
 load f l h e = ((perform (with_library f l) (loading h e)).reply, (perform (with_library f l) (loading h e)).frame.heads)
 
-module _ (f : Frame) (l k : Library) (h e : ℕ) (n : l.n ≡ k.n) (q : e < k.n → entry_at l e ≡ entry_at k e) where
+module _ (f : Frame) (l k : Library) (h e : ℕ) (n : count l ≡ count k) (q : e < count k → entry_at l e ≡ entry_at k e) where
   same_load : load f l h e ≡ load f k h e
   unfolding perform
-  same_load = go (ltb 11 h) (leb k.n e) refl refl
+  same_load = go (ltb 11 h) (leb (count k) e) refl refl
     where
-      go : (a b : Bool) → ltb 11 h ≡ a → leb k.n e ≡ b → load f l h e ≡ load f k h e
+      go : (a b : Bool) → ltb 11 h ≡ a → leb (count k) e ≡ b → load f l h e ≡ load f k h e
       go true b x y = rw x refl
       go false true x y = rw (x, n, y) refl
-      go false false x y = rw (x, n, y) (ap (λ (t : Entry). (plain 0, set f.heads h (holding (head_at f h) (loaded_with t)))) (q (leb-false k.n e y)))
+      go false false x y = rw (x, n, y) (ap (λ (t : Entry). (plain 0, set f.heads h (holding (head_at f h) (loaded_with t)))) (q (leb-false (count k) e y)))
 
 -- ---- a frame that has opened a sheet
 opened : (f : Frame) (s : List ℕ) → Sheet s → (perform f (opening s)).frame ≡ with_library f (library_of s)
@@ -69,14 +69,19 @@ grows H h j s e = go (eqb (head_first h (load_number s e)) 0) refl
     go false x = rw x refl
 
 module _ (s t : List ℕ) (a : Sheet s) (b : Sheet t) (q : HasEntries s t) (e : ℕ) where
-  entry : e < entries_of s → entry_at (library_of t) e ≡ entry_at (library_of s) e
-  entry i = (same_entries t b).entry e (rw q.number i) ∙ q.entry e ∙ sym ((same_entries s a).entry e i)
+  same_count : count (library_of t) ≡ count (library_of s)
+  same_count = count_in t ∙ q.number ∙ sym (count_in s)
+
+  entry : e < count (library_of s) → entry_at (library_of t) e ≡ entry_at (library_of s) e
+  entry l =
+      let i : e < entries_of s = rw count_in at l in
+      (same_entries t b).entry e (rw q.number i) ∙ q.entry e ∙ sym ((same_entries s a).entry e i)
 
   reply : (f : Frame) (h : ℕ) → (load_from f t h e).reply ≡ (load_from f s h e).reply
-  reply f h = rw (opened f s a, opened f t b) (ap (λ (p : Reply × List Head). p.0) (same_load f (library_of t) (library_of s) h e q.number entry))
+  reply f h = rw (opened f s a, opened f t b) (ap (λ (p : Reply × List Head). p.0) (same_load f (library_of t) (library_of s) h e same_count entry))
 
   heads : (f : Frame) (h : ℕ) → (load_from f t h e).frame.heads ≡ (load_from f s h e).frame.heads
-  heads f h = rw (opened f s a, opened f t b) (ap (λ (p : Reply × List Head). p.1) (same_load f (library_of t) (library_of s) h e q.number entry))
+  heads f h = rw (opened f s a, opened f t b) (ap (λ (p : Reply × List Head). p.1) (same_load f (library_of t) (library_of s) h e same_count entry))
 
   history : (H : Histories) (h j : ℕ) → (loaded_from H t h e).heads j ≡ (loaded_from H s h e).heads j
   history H h j =

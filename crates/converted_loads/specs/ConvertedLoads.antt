@@ -2,7 +2,7 @@
 use Rattle.std.specs.Prelude.{ℕ, ◌≡◌, List}
 use Rattle.sheets.specs.Sheet.{entry_in}
 use Rattle.sheets.specs.declared.edition.Edition.{Edition}
-use Rattle.conversion.specs.Conversion.{convert_of}
+use Rattle.conversion.specs.Conversion.{convert_number}
 use Rattle.conversion.specs.Converted.{written_sheet}
 use Rattle.loads.specs.Load.{filter_of}
 use Rattle.frame.specs.Call.{opening, loading}
@@ -29,4 +29,4 @@ pub record LoadsAlike (s t : List ℕ) (e : ℕ) : Type 0 where
   pub history : (H : Histories) (h j : ℕ) → (loaded_from H t h e).heads j ≡ (loaded_from H s h e).heads j
 
 abbrev pub ConvertedLoads : Type 0
-ConvertedLoads = (v : Edition) (s out : List ℕ) → (convert_of v s out).number ≡ 0 → (e : ℕ) → LoadsAlike s (written_sheet v s out) e
+ConvertedLoads = (v : Edition) (s out : List ℕ) → convert_number v s out ≡ 0 → (e : ℕ) → LoadsAlike s (written_sheet v s out) e

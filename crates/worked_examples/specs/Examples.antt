@@ -1,6 +1,6 @@
 -- The worked examples of document 01, and those for requests of 02, a row each, about the definitions that the contracts cite.
 -- An output buffer is lent full of `kept`, so that the places that a form leaves alone show.
-use Rattle.std.specs.Prelude.{◌≡◌, ℕ, List, [], ◌∷◌, ◌++◌, Float}
+use Rattle.std.specs.Prelude.{◌≡◌, ℕ, List, [], ◌∷◌, ◌++◌, length, replicate, Float}
 use Rattle.std.specs.Float.{nan}
 use Rattle.filter_core.specs.Arithmetic.{word, zeroᶠ, halfᶠ, oneᶠ, negᶠ}
 use Rattle.filter_core.specs.Buffer.{Filtered, buffer_after, each, puts, each_due, puts_due}
@@ -23,11 +23,11 @@ use Rattle.crossover_svf.specs.declared.CrossoverSvf.{CrossoverSvf}
 use Rattle.sheets.specs.Sheet.{check_of}
 use Rattle.sheets.specs.EditionOne.{check_one, lookup_one}
 use Rattle.sheets.specs.declared.edition.Edition.TheVariants.{One, Two}
-use Rattle.library.specs.Library.{zero_bytes, library_of, bytes_of, entry_at}
-use Rattle.conversion.specs.Conversion.{convert_of, converted_of}
-use Rattle.any_filter.specs.declared.Filter.TheVariants.{Dc, OnePole as OnePoleIn}
+use Rattle.library.specs.Library.{count as entry_count, library_of, bytes_of, entry_at}
+use Rattle.conversion.specs.Conversion.{convert_number, converted_of}
+use Rattle.any_filter.specs.declared.Filter.TheVariants.{DcBlocker as DcBlockerIn, OnePole as OnePoleIn}
 use Rattle.loads.specs.Load.{filter_of}
-use Rattle.runs.specs.declared.RunForm.TheVariants.{Plain, Stride}
+use Rattle.runs.specs.declared.form.RunForm.TheVariants.{Plain, Stride}
 use Rattle.heads.specs.Act.{run, rest, mark, back, count, answered, marked, ran, counted}
 use Rattle.heads.specs.Snapshot.{count_refusal}
 use Rattle.frame.specs.Call.{Call, opening, loading, at, plain, acted}
@@ -74,7 +74,7 @@ crossover = record { f = halfᶠ; fq = halfᶠ; x = zeros; lp = zeros; bp = zero
 -- ---- the sheet of S10, and calls on a fresh frame
 
 abbrev pub sheet : List ℕ
-sheet = 0x01 ∷ 0x00 ∷ 0x01 ∷ 0x00 ∷ 0x00 ∷ 0x00 ∷ 0x3f ∷ zero_bytes 8
+sheet = 0x01 ∷ 0x00 ∷ 0x01 ∷ 0x00 ∷ 0x00 ∷ 0x00 ∷ 0x3f ∷ replicate 8 0
 
 abbrev pub run_one : Call
 run_one = at 0 (run (Plain LowPass) (oneᶠ ∷ []) (kept ∷ []))
@@ -87,7 +87,7 @@ last_head = opening sheet ∷ loading 11 0 ∷ loading 12 0 ∷ at 11 mark ∷ a
 
 -- a sheet of one entry, a modified filter with f and fq 0.5
 abbrev pub modified_sheet : List ℕ
-modified_sheet = 0x01 ∷ 0x00 ∷ 0x06 ∷ 0x00 ∷ 0x00 ∷ 0x00 ∷ 0x3f ∷ 0x00 ∷ 0x00 ∷ 0x00 ∷ 0x3f ∷ zero_bytes 4
+modified_sheet = 0x01 ∷ 0x00 ∷ 0x06 ∷ 0x00 ∷ 0x00 ∷ 0x00 ∷ 0x3f ∷ 0x00 ∷ 0x00 ∷ 0x00 ∷ 0x3f ∷ replicate 4 0
 
 abbrev pub run_band : Float → Call
 run_band x = at 0 (run (Plain BandPass) (x ∷ []) (kept ∷ []))
@@ -97,25 +97,25 @@ two_motifs = opening modified_sheet ∷ loading 0 0 ∷ run_band oneᶠ ∷ at 0
 
 -- a sheet of one entry, a one-pole filter in Exact, by the lowest byte of its f: c9 is -0.497, and ca the number next below
 abbrev pub mirror_sheet : ℕ → List ℕ
-mirror_sheet b = 0x01 ∷ 0x00 ∷ 0x02 ∷ b ∷ 0x76 ∷ 0xfe ∷ 0xbe ∷ zero_bytes 8
+mirror_sheet b = 0x01 ∷ 0x00 ∷ 0x02 ∷ b ∷ 0x76 ∷ 0xfe ∷ 0xbe ∷ replicate 8 0
 
 abbrev pub two_mirrors : List Call
 two_mirrors = opening (mirror_sheet 0xc9) ∷ opening (mirror_sheet 0xca) ∷ []
 
 -- a sheet of one entry, a one-pole filter at 0.5 in approximation 4, by its second byte: 2 is edition 2
 abbrev pub series_sheet : ℕ → List ℕ
-series_sheet v = 0x01 ∷ v ∷ 0x42 ∷ 0x00 ∷ 0x00 ∷ 0x00 ∷ 0x3f ∷ zero_bytes 8
+series_sheet v = 0x01 ∷ v ∷ 0x42 ∷ 0x00 ∷ 0x00 ∷ 0x00 ∷ 0x3f ∷ replicate 8 0
 
 abbrev pub three_editions : List Call
 three_editions = opening (series_sheet 2) ∷ opening (series_sheet 0) ∷ opening (series_sheet 1) ∷ []
 
 -- the same in Accurate, which both editions have
 abbrev pub accurate_sheet : ℕ → List ℕ
-accurate_sheet v = 0x01 ∷ v ∷ 0x12 ∷ 0x00 ∷ 0x00 ∷ 0x00 ∷ 0x3f ∷ zero_bytes 8
+accurate_sheet v = 0x01 ∷ v ∷ 0x12 ∷ 0x00 ∷ 0x00 ∷ 0x00 ∷ 0x3f ∷ replicate 8 0
 
 -- an output with room for a byte more than these
 abbrev pub longer : List ℕ
-longer = zero_bytes 15 ++ 0xee ∷ []
+longer = replicate 15 0 ++ 0xee ∷ []
 
 -- a sheet of one entry, the Svf of S3
 abbrev pub svf_sheet : List ℕ
@@ -178,9 +178,9 @@ pub record WorkedExamples : Type 0 where
       buffer_after (each (crossover_next HighPass)) (puts (crossover_out HighPass)) 0 crossover (oneᶠ ∷ []) (kept ∷ []) ≡ quarterᶠ ∷ []
   -- S10 of document 01: a sheet of one entry, a DC blocker with the pole 0.5
   pub sheet_accepted : check_of sheet ≡ 0
-  pub sheet_entries : (library_of sheet).n ≡ 1
+  pub sheet_entries : entry_count (library_of sheet) ≡ 1
   pub sheet_entry : entry_at (library_of sheet) 0 ≡ record { kind = 1; a = 0x3f00_0000; b = 0; c = 0 }
-  pub sheet_filter : filter_of (entry_at (library_of sheet) 0) ≡ Dc halfᶠ zeroᶠ zeroᶠ
+  pub sheet_filter : filter_of (entry_at (library_of sheet) 0) ≡ DcBlockerIn (record { pole = halfᶠ; x = zeroᶠ; y = zeroᶠ })
   -- S11 of document 01: the run after the return answers what the run after the mark did
   pub break_replies :
       replies_to no_histories thread_break
@@ -227,17 +227,17 @@ pub record WorkedExamples : Type 0 where
   pub naive_by_series : naive_frequency halfᶠ Series ≡ naive_frequency halfᶠ Dirty
   pub edition_replies : replies_to no_histories three_editions ≡ plain 0 ∷ plain 3 ∷ plain 2 ∷ []
   pub edition_kept : bytes_of (library_of (series_sheet 2)) ≡ series_sheet 2
-  pub edition_filter : filter_of (entry_at (library_of (series_sheet 2)) 0) ≡ OnePoleIn (word 0x4129_e2fd) (word 0x3db0_478a) zeroᶠ
+  pub edition_filter : filter_of (entry_at (library_of (series_sheet 2)) 0) ≡ OnePoleIn (record { g = word 0x4129_e2fd; gi = word 0x3db0_478a; state = zeroᶠ })
   pub edition_declined : check_one (series_sheet 2) ≡ 2
   pub edition_not_shown : lookup_one (series_sheet 2) 0 ≡ []
   -- document 02, f: the sheet in Accurate becomes one of edition 1 and goes back, and the place behind it is kept; one of edition 2 is copied to
   -- edition 2. A byte too little is refused with 12; approximation 4 in edition 1 with 15, which comes first
-  pub converted_answer : convert_of One (accurate_sheet 2) longer ≡ record { number = 0; length = 15 }
+  pub converted_answer : (convert_number One (accurate_sheet 2) longer ≡ 0) × (length (accurate_sheet 2) ≡ 15)
   pub converted_bytes : converted_of One (accurate_sheet 2) longer ≡ accurate_sheet 0 ++ 0xee ∷ []
   pub converted_back : converted_of Two (accurate_sheet 0) longer ≡ accurate_sheet 2 ++ 0xee ∷ []
   pub converted_copy : converted_of Two (series_sheet 2) longer ≡ series_sheet 2 ++ 0xee ∷ []
-  pub converted_short : convert_of One (accurate_sheet 2) (zero_bytes 14) ≡ record { number = 12; length = 0 }
-  pub not_converted : convert_of One (series_sheet 2) (zero_bytes 14) ≡ record { number = 15; length = 0 }
+  pub converted_short : convert_number One (accurate_sheet 2) (replicate 14 0) ≡ 12
+  pub not_converted : convert_number One (series_sheet 2) (replicate 14 0) ≡ 15
   -- document 02, i: two strides of 2 over three samples count six, and a rest leaves them; back to the mark there are three, after a load none.
   -- The last sample that 32 bits count is sewn, one more is refused
   pub count_replies :

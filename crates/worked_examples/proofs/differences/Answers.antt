@@ -5,13 +5,11 @@ use Rattle.svf.specs.Svf.{svf_next, svf_out}
 use Rattle.naive_svf.specs.NaiveSvf.{naive_low, naive_high, naive_next, naive_out}
 use Rattle.modified_svf.specs.ModifiedSvf.{modified_out}
 use Rattle.crossover_svf.specs.CrossoverSvf.{crossover_out}
-use Rattle.worked_examples.specs.Differences.{Differences}
-use Rattle.worked_examples.proofs.differences.Statement.{statement}
-use Rattle.worked_examples.proofs.differences.Tie as tie
+use Rattle.worked_examples.proofs.differences.Goals as goal
 
-computed : Differences
+pub returns : goal.returns
 unfolding of_bits add sub mul div neg lt le dirty_a fast_a fast_b accurate_a accurate_b accurate_c accurate_d accurate_e svf_next svf_out naive_low naive_high naive_next naive_out modified_out crossover_out
-computed =
+returns c =
     record {
       exact_quarter = refl;
       series_quarter = refl;
@@ -38,6 +36,3 @@ computed =
       exact_at_lowest = refl;
       accurate_below_lowest = refl;
     }
-
-pub differences_spec : {M : Type 1} → statement M
-differences_spec = tie.close (tie.spec (λ c. computed))

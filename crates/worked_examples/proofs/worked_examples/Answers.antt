@@ -6,19 +6,16 @@ use Rattle.modified_svf.specs.ModifiedSvf.{modified_next, modified_out}
 use Rattle.crossover_svf.specs.CrossoverSvf.{crossover_next, crossover_out}
 use Rattle.sheets.specs.Refusal.{first_refusal, entry_refusal}
 use Rattle.lists.specs.Over.{over}
-use Rattle.library.specs.Library.{zero_bytes}
-use Rattle.any_filter.specs.Cases.{rested}
+use Rattle.lists.specs.Table.{table}
 use Rattle.runs.specs.Run.{through, first_output}
 use Rattle.loads.specs.Load.{filter_for}
 use Rattle.heads.specs.History.{type_from, since_from, samples_in, snapshot_from}
 use Rattle.frame.specs.History.{replies_to, reply_to, advance, call_number}
-use Rattle.worked_examples.specs.Examples.{WorkedExamples}
-use Rattle.worked_examples.proofs.worked_examples.Statement.{statement}
-use Rattle.worked_examples.proofs.worked_examples.Tie as tie
+use Rattle.worked_examples.proofs.worked_examples.Goals as goal
 
-computed : WorkedExamples
-unfolding of_bits add sub mul div neg lt le is_nan first_refusal entry_refusal over zero_bytes rested filter_for through first_output replies_to reply_to advance call_number type_from since_from samples_in snapshot_from svf_next svf_out svf_mixed naive_low naive_high naive_next naive_out modified_next modified_out crossover_next crossover_out
-computed =
+pub returns : goal.returns
+unfolding of_bits add sub mul div neg lt le is_nan first_refusal entry_refusal over table filter_for through first_output replies_to reply_to advance call_number type_from since_from samples_in snapshot_from svf_next svf_out svf_mixed naive_low naive_high naive_next naive_out modified_next modified_out crossover_next crossover_out
+returns c =
     record {
       dc_blocker = refl;
       one_pole_low = refl;
@@ -51,7 +48,7 @@ computed =
       edition_filter = refl;
       edition_declined = refl;
       edition_not_shown = refl;
-      converted_answer = refl;
+      converted_answer = (refl, refl);
       converted_bytes = refl;
       converted_back = refl;
       converted_copy = refl;
@@ -61,6 +58,3 @@ computed =
       count_last = refl;
       count_over = refl;
     }
-
-pub worked_examples_spec : {M : Type 1} → statement M
-worked_examples_spec = tie.close (tie.spec (λ c. computed))
