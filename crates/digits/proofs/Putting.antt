@@ -1,13 +1,12 @@
 -- What is put over a list: a function's first values, and texts one after the other. Assumes nothing.
 use Prim.Native.Nat.{ℕ, zero, suc, ◌+◌, ◌≤◌, ◌<◌, min}
-use mathlib.Core.Path.{◌≡◌, refl, sym, ap, ◌∙◌}
+use mathlib.Core.Path.{◌≡◌, sym, ap, ◌∙◌}
 use mathlib.Core.List.{List, [], ◌∷◌, ◌++◌, append_assoc, append-nil}
 use native.Mathlib.Numerals.{add-one}
 use native.Mathlib.Nat.{zero-add}
 use native.Mathlib.Omega.{arith}
 use borrow.Author.Rules.{rules}
 use lib.ListN.{length, get_or, set, take, length-append}
-use lib.Seq.{length-take-le}
 use Rattle.lists.specs.Table.{table}
 use Rattle.lists.proofs.Over.{length_over, over_none, over_behind, Copied, copy_start, copy_again, copy_done}
 use Rattle.lists.proofs.Tables.{length_table, get_or_table}
@@ -31,12 +30,6 @@ module _ {A : Type 0} where
 
     pub fill_done : {n i : ℕ} {zs : List A} → Copied 0 (table m f) ys n i zs → n ≤ i → n ≡ min m (length ys) → Puts 0 (table m f) ys n zs
     fill_done {n} c h e = record { list = copy_done c h (rw (length_table m f) (omega arith)); place = omega (arith, length_table m f) }
-
-  pub fill_counts : {xs ys : List A} {n i : ℕ} {zs : List A} → Copied 0 xs ys n i zs → n ≤ length zs
-  fill_counts {zs = zs} c = omega (arith, c.places, c.long)
-
-  pub fill_takes : {xs ys : List A} {n i : ℕ} {zs : List A} → Copied 0 xs ys n i zs → n ≡ length (take n zs)
-  fill_takes {n = n} {zs = zs} c = sym (length-take-le n zs (fill_counts c))
 
   -- ---- one text after the other is both at once
 
@@ -64,8 +57,4 @@ module _ {A : Type 0} (text : A → List ℕ) where
       → t ≡ text (get_or xs i d) → Puts r t zs q vs → Puts at (spelled text (take (i + 1) xs)) ys q vs
   spell_again xs i d p h e w = rw (add-one i, spelled_more xs i d h, ← e) (puts_more p w)
 
-  pub spell_next : (xs : List A) (i : ℕ) (d : A) {at : ℕ} {ys zs vs : List ℕ} {r q : ℕ} → Puts at (spelled text (take i xs)) ys r zs → i < length xs
-      → Puts r (text (get_or xs i d)) zs q vs → Puts at (spelled text (take (i + 1) xs)) ys q vs
-  spell_next xs i d p h w = spell_again xs i d p h refl w
-
-pub ruleset putting = (fill_start, fill_again, fill_done, fill_counts, fill_takes, spell_start, spell_again, spell_next, rules)
+pub ruleset putting = (spell_start, spell_again, rules)

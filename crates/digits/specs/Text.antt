@@ -32,8 +32,8 @@ abbrev pub or_dash : {A : Type 0} → List A → List ℕ → List ℕ
 or_dash [] text = 45 ∷ []
 or_dash (x ∷ xs) text = text
 
-abbrev pub bytes_text : List ℕ → List ℕ
-bytes_text bs = or_dash bs (spelled byte_text bs)
+abbrev pub units_text : {A : Type 0} → (A → List ℕ) → List A → List ℕ
+units_text text xs = or_dash xs (spelled text xs)
 
-abbrev pub samples_text : List Float → List ℕ
-samples_text xs = or_dash xs (spelled (λ x. word_text (to_bits binary32 x)) xs)
+abbrev pub sample_text : Float → List ℕ
+sample_text x = word_text (to_bits binary32 x)

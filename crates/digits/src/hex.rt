@@ -3,9 +3,11 @@
 ghost use Rattle.std.specs.Prelude.{◌≡◌, ◌<◌};
 ghost use Rattle.std.specs.Float.{binary32};
 ghost use Rattle.std.specs.Float.Ieee.{of_bits};
-ghost use Rattle.digits.specs.Hex.{hex_digit, all_hex, pair_of, byte_from, hex_word, bytes_of, samples_of};
+ghost use Rattle.digits.specs.Hex.{hex_digit, all_hex, pair_of, byte_from, hex_word, units_of};
 ghost use Rattle.lists.specs.Over.{Puts};
 ghost use Rattle.digits.specs.Place.{Counts};
+
+use crate::unit::Unit;
 
 fn digit(b: u8) -> Option<u8>
     ensures { result ≡ hex_digit b }
@@ -32,7 +34,7 @@ fn pair(high: u8, low: u8) -> u8
 }
 
 // The byte whose two digits stand k places after `at`.
-fn byte(s: &[u8], at: usize, k: usize) -> u8
+pub(crate) fn byte(s: &[u8], at: usize, k: usize) -> u8
     requires { k < 8 }
     ensures { result ≡ byte_from s.now at k }
 {
@@ -59,26 +61,14 @@ pub fn sample(s: &[u8], at: usize) -> f32
     words::word_to_f32(word(s, at))
 }
 
-// The bytes of the text, as far as `out` has places; the answer counts them.
-pub fn bytes(s: &[u8], out: &mut [u8]) -> usize
-    ensures puts { Puts 0 (bytes_of s.now) out.old result out.new }
+// The units of the text, as far as `out` has places; the answer counts them.
+pub fn units<T: Unit>(s: &[u8], out: &mut [T]) -> usize
+    ensures puts { Puts 0 (units_of T.DIGITS T.read_at s.now) out.old result out.new }
     ensures counts { Counts result out.new }
 {
-    let n = filter_core::shortest(s.len() / 2, out.len());
+    let n = (s.len() / T::DIGITS).min(out.len());
     for i in 0..n {
-        out[i] = byte(s, 2 * i, 0);
-    }
-    n
-}
-
-// The samples of the text, likewise.
-pub fn samples(s: &[u8], out: &mut [f32]) -> usize
-    ensures puts { Puts 0 (samples_of s.now) out.old result out.new }
-    ensures counts { Counts result out.new }
-{
-    let n = filter_core::shortest(s.len() / 8, out.len());
-    for i in 0..n {
-        out[i] = sample(s, 8 * i);
+        out[i] = T::read(s, T::DIGITS * i);
     }
     n
 }

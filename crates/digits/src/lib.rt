@@ -4,8 +4,10 @@
 mod decimal;
 mod hex;
 mod output;
+mod unit;
 
 pub use decimal::number_of;
-pub use hex::{all_hex, bytes, sample, samples};
+pub use hex::{all_hex, sample, units};
 pub use lists::put;
-pub use output::{put_bytes, put_samples, put_word};
+pub use output::{put_units, put_word};
+pub use unit::Unit;

@@ -4,8 +4,9 @@ ghost use Rattle.std.specs.Prelude.{◌≡◌, ◌<◌};
 ghost use Rattle.std.specs.Float.{binary32};
 ghost use Rattle.std.specs.Float.Ieee.{to_bits};
 ghost use Rattle.lists.specs.Over.{Puts};
-ghost use Rattle.digits.specs.Text.{glyph_of, byte_text, word_text, bytes_text, samples_text};
+ghost use Rattle.digits.specs.Text.{glyph_of, byte_text, word_text, units_text};
 
+use crate::unit::Unit;
 use lists::put;
 
 fn glyph(d: u32) -> u8
@@ -19,7 +20,7 @@ fn glyph(d: u32) -> u8
     }
 }
 
-fn byte_text(b: u8) -> [u8; 2]
+pub(crate) fn byte_text(b: u8) -> [u8; 2]
     ensures { result ≡ byte_text b }
 {
     let w = u32::from(b);
@@ -49,29 +50,15 @@ pub fn put_word(x: f32, out: &mut [u8], at: usize) -> usize
 }
 
 // `-` for none.
-pub fn put_bytes(bytes: &[u8], out: &mut [u8], at: usize) -> usize
-    ensures { Puts at (bytes_text bytes.now) out.old result out.new }
+pub fn put_units<T: Unit>(units: &[T], out: &mut [u8], at: usize) -> usize
+    ensures { Puts at (units_text T.text units.now) out.old result out.new }
 {
-    if bytes.is_empty() {
+    if units.is_empty() {
         return put(b"-", out, at);
     }
     let mut to = at;
-    for &b in bytes {
-        to = put(&byte_text(b), out, to);
-    }
-    to
-}
-
-// `-` for none.
-pub fn put_samples(samples: &[f32], out: &mut [u8], at: usize) -> usize
-    ensures { Puts at (samples_text samples.now) out.old result out.new }
-{
-    if samples.is_empty() {
-        return put(b"-", out, at);
-    }
-    let mut to = at;
-    for &x in samples {
-        to = put_word(x, out, to);
+    for &x in units {
+        to = x.put(out, to);
     }
     to
 }

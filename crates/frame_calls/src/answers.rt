@@ -52,13 +52,13 @@ fn count(now: Answered, head: usize, out: &mut [u8]) -> Answered {
 
 fn open(now: Answered, sheet: &[u8], out: &mut [u8]) -> Answered {
     let mut bytes = [0u8; 4096];
-    let n = digits::bytes(sheet, &mut bytes);
+    let n = digits::units(sheet, &mut bytes);
     plain(now.frame.open(&bytes[..n]), out, now.at)
 }
 
 fn write(now: Answered, output: &[u8], out: &mut [u8]) -> Answered {
     let mut bytes = [0u8; 4096];
-    let n = digits::bytes(output, &mut bytes);
+    let n = digits::units(output, &mut bytes);
     let answer = now.frame.write(&mut bytes[..n]);
     let frame = answer.frame;
     let at = put_written(answer.number, answer.length, &bytes[..n], out, now.at);
@@ -67,33 +67,33 @@ fn write(now: Answered, output: &[u8], out: &mut [u8]) -> Answered {
 
 fn check(sheet: &[u8], entry: usize, out: &mut [u8], at: usize) -> usize {
     let mut bytes = [0u8; 4096];
-    let n = digits::bytes(sheet, &mut bytes);
+    let n = digits::units(sheet, &mut bytes);
     put_number(sheets::check_entry(&bytes[..n], entry), out, at)
 }
 
 fn lookup(sheet: &[u8], entry: usize, out: &mut [u8], at: usize) -> usize {
     let mut bytes = [0u8; 4096];
-    let n = digits::bytes(sheet, &mut bytes);
+    let n = digits::units(sheet, &mut bytes);
     put_part(sheets::lookup(&bytes[..n], entry), out, at)
 }
 
 fn check_edition_one(sheet: &[u8], entry: usize, out: &mut [u8], at: usize) -> usize {
     let mut bytes = [0u8; 4096];
-    let n = digits::bytes(sheet, &mut bytes);
+    let n = digits::units(sheet, &mut bytes);
     put_number(sheets::check_entry_edition_one(&bytes[..n], entry), out, at)
 }
 
 fn lookup_edition_one(sheet: &[u8], entry: usize, out: &mut [u8], at: usize) -> usize {
     let mut bytes = [0u8; 4096];
-    let n = digits::bytes(sheet, &mut bytes);
+    let n = digits::units(sheet, &mut bytes);
     put_part(sheets::lookup_edition_one(&bytes[..n], entry), out, at)
 }
 
 fn convert(wanted: Edition, sheet: &[u8], output: &[u8], out: &mut [u8], at: usize) -> usize {
     let mut bytes = [0u8; 4096];
     let mut converted = [0u8; 4096];
-    let n = digits::bytes(sheet, &mut bytes);
-    let m = digits::bytes(output, &mut converted);
+    let n = digits::units(sheet, &mut bytes);
+    let m = digits::units(output, &mut converted);
     let answer = conversion::convert(wanted, &bytes[..n], &mut converted[..m]);
     put_written(answer.number, answer.length, &converted[..m], out, at)
 }

@@ -14,8 +14,8 @@ pub(crate) fn run(
 ) -> Answered {
     let mut heard = [0.0f32; 1024];
     let mut answered = [0.0f32; 1024];
-    let n = digits::samples(input, &mut heard);
-    let m = digits::samples(output, &mut answered);
+    let n = digits::units(input, &mut heard);
+    let m = digits::units(output, &mut answered);
     let answer = now.frame.run(head, form, &heard[..n], &mut answered[..m]);
     let frame = answer.frame;
     let at = put_run(answer.number, &answered[..m], out, now.at);
@@ -34,9 +34,9 @@ pub(crate) fn run_two(
     let mut heard = [0.0f32; 1024];
     let mut one = [0.0f32; 1024];
     let mut other = [0.0f32; 1024];
-    let n = digits::samples(input, &mut heard);
-    let m = digits::samples(first, &mut one);
-    let k = digits::samples(second, &mut other);
+    let n = digits::units(input, &mut heard);
+    let m = digits::units(first, &mut one);
+    let k = digits::units(second, &mut other);
     let answer = now
         .frame
         .run_two(head, form, &heard[..n], &mut one[..m], &mut other[..k]);

@@ -31,7 +31,7 @@ fn counted(refusal: u8, n: usize, out: &mut [u8], at: usize) -> usize {
 // A space and the samples.
 fn spaced(samples: &[f32], out: &mut [u8], at: usize) -> usize {
     let a = space(out, at);
-    digits::put_samples(samples, out, a)
+    digits::put_units(samples, out, a)
 }
 
 fn space(out: &mut [u8], at: usize) -> usize {
@@ -86,13 +86,13 @@ pub(crate) fn put_written(
     let a = numbered(refusal, out, at);
     let b = counted(refusal, length, out, a);
     let c = space(out, b);
-    let d = digits::put_bytes(bytes, out, c);
+    let d = digits::put_units(bytes, out, c);
     ended(out, d)
 }
 
 pub(crate) fn put_part(part: &[u8], out: &mut [u8], at: usize) -> usize {
     let a = space(out, at);
-    let b = digits::put_bytes(part, out, a);
+    let b = digits::put_units(part, out, a);
     ended(out, b)
 }
 

@@ -1,6 +1,0 @@
-use Rattle.lists.proofs.Over.{Copied}
-use Rattle.digits.specs.Hex.{bytes_of}
-use Rattle.digits.proofs.hex.bytes.Given as goal
-
-abbrev pub invariant-loop-i : goal.invariant-loop-i
-invariant-loop-i l = Copied 0 (bytes_of l.s) l.initial.out l.n l.i l.out
