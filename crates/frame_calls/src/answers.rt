@@ -6,63 +6,68 @@ use crate::text::{
     put_bad_line, put_counted, put_head, put_keyword, put_long_line, put_number, put_part,
     put_written,
 };
-use call_text::{BadLine, Call};
-use frame::{Answer, Frame};
+use call_text::Call;
+use frame::Frame;
 use sheets::Edition;
 
-// The frame after a line, and the place behind its answer in the output.
-#[derive(Clone, Copy)]
-pub(crate) struct Answered {
-    pub(crate) frame: Frame,
-    pub(crate) at: usize,
+// Each function makes a call, puts its answer into the output from the place `at` on, and answers the place behind it.
+
+fn load(frame: &mut Frame, head: usize, entry: usize, out: &mut [u8], at: usize) -> usize {
+    let answer = frame.load(head, entry);
+    *frame = answer.frame;
+    put_number(answer.number, out, at)
 }
 
-// The same frame, with another place behind its answer.
-fn ending(mut now: Answered, at: usize) -> Answered {
-    now.at = at;
-    now
+fn rest(frame: &mut Frame, head: usize, out: &mut [u8], at: usize) -> usize {
+    let answer = frame.rest(head);
+    *frame = answer.frame;
+    put_number(answer.number, out, at)
 }
 
-fn plain(answer: Answer, out: &mut [u8], at: usize) -> Answered {
-    let frame = answer.frame;
-    let to = put_number(answer.number, out, at);
-    Answered { frame, at: to }
+fn mark(frame: &mut Frame, head: usize, out: &mut [u8], at: usize) -> usize {
+    let answer = frame.mark(head);
+    *frame = answer.frame;
+    put_counted(answer.number, answer.mark, out, at)
 }
 
-fn mark(now: Answered, head: usize, out: &mut [u8]) -> Answered {
-    let answer = now.frame.mark(head);
-    let frame = answer.frame;
-    let at = put_counted(answer.number, answer.mark, out, now.at);
-    Answered { frame, at }
+fn back(frame: &mut Frame, head: usize, mark: usize, out: &mut [u8], at: usize) -> usize {
+    let answer = frame.back(head, mark);
+    *frame = answer.frame;
+    put_number(answer.number, out, at)
 }
 
-fn head(now: Answered, head: usize, out: &mut [u8]) -> Answered {
-    let answer = now.frame.show(head);
-    let frame = answer.frame;
-    let at = put_head(answer.number, answer.head, out, now.at);
-    Answered { frame, at }
+fn drop(frame: &mut Frame, head: usize, mark: usize, out: &mut [u8], at: usize) -> usize {
+    let answer = frame.drop(head, mark);
+    *frame = answer.frame;
+    put_number(answer.number, out, at)
 }
 
-fn count(now: Answered, head: usize, out: &mut [u8]) -> Answered {
-    let answer = now.frame.count(head);
-    let frame = answer.frame;
-    let at = put_counted(answer.number, answer.count as usize, out, now.at);
-    Answered { frame, at }
+fn head(frame: &mut Frame, head: usize, out: &mut [u8], at: usize) -> usize {
+    let answer = frame.show(head);
+    *frame = answer.frame;
+    put_head(answer.number, answer.head, out, at)
 }
 
-fn open(now: Answered, sheet: &[u8], out: &mut [u8]) -> Answered {
+fn count(frame: &mut Frame, head: usize, out: &mut [u8], at: usize) -> usize {
+    let answer = frame.count(head);
+    *frame = answer.frame;
+    put_counted(answer.number, answer.count as usize, out, at)
+}
+
+fn open(frame: &mut Frame, sheet: &[u8], out: &mut [u8], at: usize) -> usize {
     let mut bytes = [0u8; 4096];
     let n = digits::units(sheet, &mut bytes);
-    plain(now.frame.open(&bytes[..n]), out, now.at)
+    let answer = frame.open(&bytes[..n]);
+    *frame = answer.frame;
+    put_number(answer.number, out, at)
 }
 
-fn write(now: Answered, output: &[u8], out: &mut [u8]) -> Answered {
+fn write(frame: &mut Frame, output: &[u8], out: &mut [u8], at: usize) -> usize {
     let mut bytes = [0u8; 4096];
     let n = digits::units(output, &mut bytes);
-    let answer = now.frame.write(&mut bytes[..n]);
-    let frame = answer.frame;
-    let at = put_written(answer.number, answer.length, &bytes[..n], out, now.at);
-    Answered { frame, at }
+    let answer = frame.write(&mut bytes[..n]);
+    *frame = answer.frame;
+    put_written(answer.number, answer.length, &bytes[..n], out, at)
 }
 
 fn check(sheet: &[u8], entry: usize, out: &mut [u8], at: usize) -> usize {
@@ -98,75 +103,64 @@ fn convert(wanted: Edition, sheet: &[u8], output: &[u8], out: &mut [u8], at: usi
     put_written(answer.number, answer.length, &converted[..m], out, at)
 }
 
-fn of_call(call: Call<&[u8]>, now: Answered, out: &mut [u8]) -> Answered {
+fn of_call(call: Call<&[u8]>, frame: &mut Frame, out: &mut [u8], at: usize) -> usize {
     match call {
-        Call::Open(sheet) => open(now, sheet, out),
-        Call::Load { head, entry } => plain(now.frame.load(head, entry), out, now.at),
+        Call::Open(sheet) => open(frame, sheet, out, at),
+        Call::Load { head, entry } => load(frame, head, entry, out, at),
         Call::Run {
             head,
             form,
             input,
             output,
-        } => run(now, head, form, input, output, out),
+        } => run(frame, head, form, input, output, out, at),
         Call::Two {
             head,
             form,
             input,
             first,
             second,
-        } => run_two(now, head, form, input, first, second, out),
-        Call::Rest(h) => plain(now.frame.rest(h), out, now.at),
-        Call::Mark(h) => mark(now, h, out),
-        Call::Back { head, mark } => plain(now.frame.back(head, mark), out, now.at),
-        Call::Drop { head, mark } => plain(now.frame.drop(head, mark), out, now.at),
-        Call::Write(output) => write(now, output, out),
-        Call::Check { sheet, entry } => ending(now, check(sheet, entry, out, now.at)),
-        Call::Lookup { sheet, entry } => ending(now, lookup(sheet, entry, out, now.at)),
-        Call::Head(h) => head(now, h, out),
-        Call::Check1 { sheet, entry } => ending(now, check_edition_one(sheet, entry, out, now.at)),
-        Call::Lookup1 { sheet, entry } => {
-            ending(now, lookup_edition_one(sheet, entry, out, now.at))
-        }
+        } => run_two(frame, head, form, input, first, second, out, at),
+        Call::Rest(h) => rest(frame, h, out, at),
+        Call::Mark(h) => mark(frame, h, out, at),
+        Call::Back { head, mark } => back(frame, head, mark, out, at),
+        Call::Drop { head, mark } => drop(frame, head, mark, out, at),
+        Call::Write(output) => write(frame, output, out, at),
+        Call::Check { sheet, entry } => check(sheet, entry, out, at),
+        Call::Lookup { sheet, entry } => lookup(sheet, entry, out, at),
+        Call::Head(h) => head(frame, h, out, at),
+        Call::Check1 { sheet, entry } => check_edition_one(sheet, entry, out, at),
+        Call::Lookup1 { sheet, entry } => lookup_edition_one(sheet, entry, out, at),
         Call::Convert {
             wanted,
             sheet,
             output,
-        } => ending(now, convert(wanted, sheet, output, out, now.at)),
-        Call::Count(h) => count(now, h, out),
+        } => convert(wanted, sheet, output, out, at),
+        Call::Count(h) => count(frame, h, out, at),
     }
 }
 
-fn bad_line(
-    rt: HostRuntime,
-    now: Answered,
-    lines: usize,
-    line: &[u8],
-    why: BadLine,
-    out: &mut [u8],
-) -> Answered {
-    faults::bad_line(rt, lines, line, why);
-    ending(now, put_bad_line(out, now.at))
-}
-
-fn long_line(rt: HostRuntime, now: Answered, lines: usize, out: &mut [u8]) -> Answered {
-    faults::long_line(rt, lines);
-    ending(now, put_long_line(out, now.at))
-}
-
-// `lines` is the line's number.
+// Answers a line, whose number is `lines`, from the place `at` on, and answers the place behind.
 pub(crate) fn answer(
     rt: HostRuntime,
-    now: Answered,
+    frame: &mut Frame,
     lines: usize,
     line: &[u8],
     out: &mut [u8],
-) -> Answered {
+    at: usize,
+) -> usize {
     if 65535 < line.len() {
-        return long_line(rt, now, lines, out);
+        faults::long_line(rt, lines);
+        return put_long_line(out, at);
     }
     match call_text::call_of(line) {
-        Ok(None) => now,
-        Err(why) => bad_line(rt, now, lines, line, why, out),
-        Ok(Some(call)) => of_call(call, ending(now, put_keyword(line, out, now.at)), out),
+        Ok(None) => at,
+        Err(why) => {
+            faults::bad_line(rt, lines, line, why);
+            put_bad_line(out, at)
+        }
+        Ok(Some(call)) => {
+            let to = put_keyword(line, out, at);
+            of_call(call, frame, out, to)
+        }
     }
 }
