@@ -12,7 +12,7 @@ use form_text::{Fields, form_of};
 use runs::RunForm;
 use sheets::Edition;
 
-// What a line asks for. A buffer or a sheet, of the type B, is the field that has its text: `digits::samples` and `digits::bytes` read it.
+// What a line asks for. A buffer or a sheet, of the type B, is the field that has its text: `digits::units` reads it.
 #[derive(Clone, Copy)]
 pub enum Call<B> {
     Open(B),

@@ -11,7 +11,7 @@ use Rattle.std.specs.List.{flat_map}
 use Rattle.std.proofs.lemmas.Grind.{flat_map-append}
 use Rattle.std.proofs.lemmas.List.{take_min, take_more}
 use Rattle.lists.specs.Table.{table}
-use Rattle.digits.specs.Text.{or_dash}
+use Rattle.digits.specs.Text.{units_text}
 use Rattle.lists.proofs.Tables.{length_table, table_none, table_more, take_of_table}
 
 module _ {A : Type 0} (N : ℕ) where
@@ -47,13 +47,13 @@ module _ {A : Type 0} (text : A → List ℕ) (N : ℕ) (l : List A) (xs : List 
       → v ≡ get_or r i v → t ≡ text v → u ≡ t → zs ≡ take N (ys ++ u) → zs ≡ take N (xs ++ flat_map text (take (i + 1 + 1) l))
   spell_next e i v y h m t u z = spell_more e i v y h (rw (u, t, ap text m) at z)
 
-  pub spell_all : l ≡ a ∷ r → (i : ℕ) {ys : List ℕ} → ys ≡ take N (xs ++ flat_map text (take (i + 1) l)) → length r ≤ i → ys ≡ take N (xs ++ or_dash text l)
+  pub spell_all : l ≡ a ∷ r → (i : ℕ) {ys : List ℕ} → ys ≡ take N (xs ++ flat_map text (take (i + 1) l)) → length r ≤ i → ys ≡ take N (xs ++ units_text text l)
   spell_all e i y h =
       let all : take (i + 1) l ≡ l = take_all (i + 1) l (rw e (omega arith)) in
-      let whole : flat_map text l ≡ or_dash text l = rw e refl in
+      let whole : flat_map text l ≡ units_text text l = rw e refl in
       rw (all, whole) at y
 
-pub spell_none : {A : Type 0} (text : A → List ℕ) (N : ℕ) (l : List A) (xs : List ℕ) {ys : List ℕ} → l ≡ [] → ys ≡ take N (xs ++ 45 ∷ []) → ys ≡ take N (xs ++ or_dash text l)
+pub spell_none : {A : Type 0} (text : A → List ℕ) (N : ℕ) (l : List A) (xs : List ℕ) {ys : List ℕ} → l ≡ [] → ys ≡ take N (xs ++ 45 ∷ []) → ys ≡ take N (xs ++ units_text text l)
 spell_none text N l xs e y = rw e y
 
 -- ---- the first values of a function

@@ -31,17 +31,14 @@ byte_from s i k = pair_of (get_or s (i + k) 0) (get_or s (i + (k + 1)) 0)
 abbrev pub hex_word : List ℕ → ℕ → ℕ
 hex_word s i = word_of (byte_from s i 6) (byte_from s i 4) (byte_from s i 2) (byte_from s i 0)
 
--- the byte k of a text, two digits each, and the sample k, eight digits each
+-- those of a text whose digits, n each, stand one behind the other, as `read` reads the one at a place
+abbrev pub units_of : {A : Type 0} → ℕ → (List ℕ → ℕ → A) → List ℕ → List A
+units_of n read s = table (length s / n) (λ k. read s (n * k))
 
-abbrev pub byte_in : List ℕ → ℕ → ℕ
-byte_in s k = byte_from s (2 * k) 0
+-- BYTE: two digits
+abbrev pub byte_read : List ℕ → ℕ → ℕ
+byte_read s i = byte_from s i 0
 
-abbrev pub sample_in : List ℕ → ℕ → Float
-sample_in s k = of_bits binary32 (hex_word s (8 * k))
-
--- those of a text
-abbrev pub bytes_of : List ℕ → List ℕ
-bytes_of s = table (length s / 2) (byte_in s)
-
-abbrev pub samples_of : List ℕ → List Float
-samples_of s = table (length s / 8) (sample_in s)
+-- SAMPLE: eight digits
+abbrev pub sample_read : List ℕ → ℕ → Float
+sample_read s i = of_bits binary32 (hex_word s i)

@@ -23,13 +23,10 @@ word_text w =
     ∷ glyph_of (w % 16)
     ∷ []
 
+abbrev pub sample_text : Float → List ℕ
+sample_text x = word_text (to_bits binary32 x)
+
 -- the texts of a list's members, one after the other; `-` where there are none
-abbrev pub or_dash : {A : Type 0} → (A → List ℕ) → List A → List ℕ
-or_dash text [] = 45 ∷ []
-or_dash text (x ∷ xs) = flat_map text (x ∷ xs)
-
-abbrev pub bytes_text : List ℕ → List ℕ
-bytes_text bs = or_dash byte_text bs
-
-abbrev pub samples_text : List Float → List ℕ
-samples_text xs = or_dash (λ x. word_text (to_bits binary32 x)) xs
+abbrev pub units_text : {A : Type 0} → (A → List ℕ) → List A → List ℕ
+units_text text [] = 45 ∷ []
+units_text text (x ∷ xs) = flat_map text (x ∷ xs)

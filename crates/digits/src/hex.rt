@@ -3,8 +3,9 @@
 ghost use Rattle.std.specs.Prelude.{◌≡◌, ◌<◌, ◌++◌, take};
 ghost use Rattle.std.specs.Float.{binary32};
 ghost use Rattle.std.specs.Float.Ieee.{of_bits};
-ghost use Rattle.digits.specs.Hex.{hex_digit, all_hex, pair_of, byte_from, hex_word, bytes_of, samples_of};
+ghost use Rattle.digits.specs.Hex.{hex_digit, all_hex, pair_of, byte_from, hex_word, units_of};
 
+use crate::unit::Unit;
 use arrayvec::ArrayVec;
 
 fn digit(b: u8) -> Option<u8>
@@ -32,7 +33,7 @@ fn pair(high: u8, low: u8) -> u8
 }
 
 // The byte whose two digits stand k places after `at`.
-fn byte(s: &[u8], at: usize, k: usize) -> u8
+pub(crate) fn byte(s: &[u8], at: usize, k: usize) -> u8
     requires { k < 8 }
     ensures { result ≡ byte_from s.now at k }
 {
@@ -59,22 +60,12 @@ pub fn sample(s: &[u8], at: usize) -> f32
     words::word_to_f32(word(s, at))
 }
 
-// The bytes of the text, put behind what `out` holds as far as there is room.
-pub fn bytes<const N: usize>(s: &[u8], out: &mut ArrayVec<u8, N>)
-    ensures { out.new.items ≡ take N (out.old.items ++ bytes_of s.now) }
+// The units of the text, put behind what `out` holds as far as there is room.
+pub fn units<T: Unit, const N: usize>(s: &[u8], out: &mut ArrayVec<T, N>)
+    ensures { out.new.items ≡ take N (out.old.items ++ units_of T.DIGITS T.read_at s.now) }
 {
-    let n = (s.len() / 2).min(out.remaining_capacity());
+    let n = (s.len() / T::DIGITS).min(out.remaining_capacity());
     for i in 0..n {
-        out.push(byte(s, 2 * i, 0));
-    }
-}
-
-// The samples of the text, likewise.
-pub fn samples<const N: usize>(s: &[u8], out: &mut ArrayVec<f32, N>)
-    ensures { out.new.items ≡ take N (out.old.items ++ samples_of s.now) }
-{
-    let n = (s.len() / 8).min(out.remaining_capacity());
-    for i in 0..n {
-        out.push(sample(s, 8 * i));
+        out.push(T::read(s, T::DIGITS * i));
     }
 }

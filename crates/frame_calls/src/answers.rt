@@ -15,13 +15,13 @@ use sheets::Edition;
 
 fn bytes_of(field: &[u8]) -> ArrayVec<u8, 4096> {
     let mut bytes = ArrayVec::new();
-    digits::bytes(field, &mut bytes);
+    digits::units(field, &mut bytes);
     bytes
 }
 
 fn samples_of(field: &[u8]) -> ArrayVec<f32, 1024> {
     let mut samples = ArrayVec::new();
-    digits::samples(field, &mut samples);
+    digits::units(field, &mut samples);
     samples
 }
 

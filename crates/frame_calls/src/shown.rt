@@ -2,7 +2,7 @@
 
 use crate::text::Output;
 use any_filter::{Filter, FilterType};
-use digits::{Hexadecimal, put};
+use digits::{Unit, put};
 use heads::{Head, Snapshot};
 
 fn name(filter: FilterType) -> &'static [u8] {

@@ -41,7 +41,7 @@ fn put_answer(out: &mut Output, answer: Result<usize, Refusal>) {
 // A space and the samples.
 fn put_spaced(out: &mut Output, samples: &[f32]) {
     put(out, b" ");
-    digits::put_all(out, samples);
+    digits::put_units(out, samples);
 }
 
 pub(crate) fn put_keyword(out: &mut Output, line: &[u8]) {
@@ -79,14 +79,14 @@ pub(crate) fn put_head(out: &mut Output, answer: Result<&Head, Refusal>) {
 pub(crate) fn put_written(out: &mut Output, answer: Result<usize, Refusal>, bytes: &[u8]) {
     put_answer(out, answer);
     put(out, b" ");
-    digits::put_all(out, bytes);
+    digits::put_units(out, bytes);
     put(out, b"\n");
 }
 
 // The part of a sheet that a lookup lends; none where it is refused.
 pub(crate) fn put_part(out: &mut Output, part: Result<&[u8], Refusal>) {
     put(out, b" ");
-    digits::put_all(out, part.unwrap_or(b""));
+    digits::put_units(out, part.unwrap_or(b""));
     put(out, b"\n");
 }
 
