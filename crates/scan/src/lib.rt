@@ -12,5 +12,8 @@ pub fn find(s: &[u8], from: usize, byte: u8) -> Option<usize>
     ensures in_bounds { IfSome result (λ k. (from ≤ k) × (k < length s.now)) }
 {
     let rest = s.get(from..)?;
-    Some(from + memchr(byte, rest)?)
+    match memchr(byte, rest) {
+        Some(k) => Some(from + k),
+        None => None,
+    }
 }

@@ -16,3 +16,12 @@ returns-in-lookup1 c = let w = spelled c.args.s.now (codes "lookup1") (grind ari
 
 pub returns-in-convert : goal.returns-in-convert
 returns-in-convert c = let w = spelled c.args.s.now (codes "convert") (grind arith) in rw w refl
+
+pub returns-in-head : goal.returns-in-head
+returns-in-head c = let w = spelled c.args.s.now (codes "head") (grind arith) in rw w refl
+
+pub returns-in-write : goal.returns-in-write
+returns-in-write c = let w = spelled c.args.s.now (codes "write") (grind arith) in rw w refl
+
+pub returns-in-check : goal.returns-in-check
+returns-in-check c = let w = spelled c.args.s.now (codes "check") (grind arith) in rw w refl
