@@ -7,9 +7,9 @@
 
 #![tactic(auto)]
 
-ghost use Rattle.digits.specs.Place.{Counts};
-
-use filter_core::FilterMode;
+use arrayvec::ArrayVec;
+use digits::{Unit, put};
+use filter_core::{FilterMode, Refusal};
 use frame::Frame;
 use runs::RunForm;
 use std::io::{Stdout, Write};
@@ -41,18 +41,20 @@ struct Forms {
     absent: RunForm,
 }
 
+type Text = ArrayVec<u8, 120>;
+
 fn main(rt: HostRuntime) {
-    let to = rt.stdout();
     let mut input = [1.0f32; BLOCK];
     input[0] = -0.5;
+    let mut trial = Trial {
+        to: rt.stdout(),
+        frame: Frame::fresh(),
+    };
+    let _ = trial.frame.open(&SHEET);
     let mut first = [7.0f32; BLOCK];
     let mut second = [7.0f32; BLOCK];
-    let sheet = SHEET;
-    let opened = Frame::fresh().open(&sheet);
-    print(to, b"An Svf, by strides of a whole run.\n");
-    try_limit(
-        to,
-        opened.frame,
+    trial.print(b"An Svf, by strides of a whole run.\n");
+    trial.try_limit(
         0,
         Forms {
             way: RunForm::Stride(FilterMode::LowPass, BLOCK),
@@ -66,10 +68,9 @@ fn main(rt: HostRuntime) {
         &mut first,
         &mut second,
     );
-    print(to, b"A naive filter, by decimation.\n");
-    try_limit(
-        to,
-        opened.frame,
+    trial.begin_anew();
+    trial.print(b"A naive filter, by decimation.\n");
+    trial.try_limit(
         1,
         Forms {
             way: RunForm::Decimate(FilterMode::LowPass, 2),
@@ -85,72 +86,25 @@ fn main(rt: HostRuntime) {
     );
 }
 
-fn print(mut to: Stdout, text: &[u8]) {
-    let _ = to.write_all(text);
-}
+// ---- text
 
-// ---- a line
-
-fn put_number(n: usize, text: &mut [u8], at: usize) -> usize {
+fn put_named(text: &mut Text, name: &[u8], n: usize) {
+    put(text, name);
     let mut decimal = [0u8; 20];
     let k = io::decimal(n as u64, &mut decimal);
-    digits::put(&decimal[..k], text, at)
+    put(text, &decimal[..k]);
 }
 
-fn put_named(name: &[u8], n: usize, text: &mut [u8], at: usize) -> usize {
-    let a = digits::put(name, text, at);
-    put_number(n, text, a)
+fn put_output(text: &mut Text, output: f32) {
+    put(text, b", output ");
+    put(text, output.text().as_slice());
 }
 
-fn put_call(name: &[u8], n: usize, number: u8, count: u32, text: &mut [u8]) -> usize {
-    let a = put_named(name, n, text, 0);
-    let b = put_named(b": ", number as usize, text, a);
-    put_named(b", count ", count as usize, text, b)
-}
-
-fn print_line(to: Stdout, text: &mut [u8], at: usize) {
-    let end = digits::put(b"\n", text, at);
-    let n = streams::within(end, text);
-    print(to, &text[..n]);
-}
-
-// What is said of a call that is called `name`.
-fn say(to: Stdout, name: &[u8], n: usize, number: u8, frame: Frame) -> Frame {
-    let counted = frame.count(HEAD);
-    let mut text = [0u8; 120];
-    let at = put_call(name, n, number, counted.count, &mut text);
-    print_line(to, &mut text, at);
-    counted.frame
-}
-
-fn put_output(output: f32, text: &mut [u8], at: usize) -> usize {
-    let a = digits::put(b", output ", text, at);
-    digits::put_word(output, text, a)
-}
-
-fn say_one(to: Stdout, name: &[u8], n: usize, number: u8, frame: Frame, output: f32) -> Frame {
-    let counted = frame.count(HEAD);
-    let mut text = [0u8; 120];
-    let a = put_call(name, n, number, counted.count, &mut text);
-    let at = put_output(output, &mut text, a);
-    print_line(to, &mut text, at);
-    counted.frame
-}
-
-fn say_two(to: Stdout, n: usize, number: u8, frame: Frame, first: f32, second: f32) -> Frame {
-    let counted = frame.count(HEAD);
-    let mut text = [0u8; 120];
-    let a = put_call(
-        b"two outputs, samples ",
-        n,
-        number,
-        counted.count,
-        &mut text,
-    );
-    let b = put_output(first, &mut text, a);
-    let at = put_output(second, &mut text, b);
-    print_line(to, &mut text, at);
-    counted.frame
+fn number_of<T: Copy>(answer: Result<T, Refusal>) -> u8 {
+    match answer {
+        Ok(_) => 0,
+        Err(refusal) => refusal.into(),
+    }
 }
 
 fn first_of(output: &[f32]) -> f32 {
@@ -163,247 +117,215 @@ fn lend(output: &mut [f32]) {
     }
 }
 
-// ---- calls, each with its line
-
-fn within(n: usize, input: &[f32]) -> usize
-    ensures { Counts result input.now }
-{
-    n.min(input.len())
+fn front(n: usize, input: &[f32]) -> &[f32] {
+    &input[..n.min(input.len())]
 }
 
-fn run(
-    to: Stdout,
-    name: &[u8],
-    frame: Frame,
-    form: RunForm,
-    n: usize,
-    input: &[f32],
-    output: &mut [f32],
-) -> Frame {
-    let m = within(n, input);
-    lend(output);
-    let answer = frame.run(HEAD, form, &input[..m], output);
-    say_one(to, name, m, answer.number, answer.frame, first_of(output))
-}
-
-fn run_two(
+// A frame, one of whose heads is brought to the limit, and where what it does is said.
+#[derive(Drop)]
+struct Trial {
     to: Stdout,
     frame: Frame,
-    form: RunForm,
-    n: usize,
-    input: &[f32],
-    first: &mut [f32],
-    second: &mut [f32],
-) -> Frame {
-    let m = within(n, input);
-    lend(first);
-    lend(second);
-    let answer = frame.run_two(HEAD, form, &input[..m], first, second);
-    say_two(
-        to,
-        m,
-        answer.number,
-        answer.frame,
-        first_of(first),
-        first_of(second),
-    )
 }
 
-fn mark(to: Stdout, frame: Frame) -> Frame {
-    let answer = frame.mark(HEAD);
-    say(to, b"mark ", answer.mark, answer.number, answer.frame)
-}
-
-fn back(to: Stdout, frame: Frame, m: usize) -> Frame {
-    let answer = frame.back(HEAD, m);
-    say(to, b"back to mark ", m, answer.number, answer.frame)
-}
-
-// ---- the way to the limit
-
-fn blocks(start: Frame, form: RunForm, input: &[f32], output: &mut [f32]) -> Frame {
-    let mut frame = start;
-    for _ in 0..BLOCKS {
-        let answer = frame.run(HEAD, form, input, output);
-        frame = answer.frame;
-    }
-    frame
-}
-
-// Of the runs of 0 to 200 samples, each from a mark that has 100 left: how many of the longer ones were refused with 18, and how many of
+// How many of the runs of 0 to 200 samples, each from a mark that has 100 left, were refused with 18 where they have more, and how many of
 // the others accepted.
 #[derive(Clone, Copy)]
 struct Tried {
-    frame: Frame,
     refused: usize,
     accepted: usize,
 }
 
-// No more runs than 201 are tried.
-fn one_more_if(on: bool, n: usize) -> usize {
-    if on && n < 201 { n + 1 } else { n }
-}
-
-fn try_length(tried: Tried, form: RunForm, n: usize, input: &[f32], output: &mut [f32]) -> Tried {
-    let m = within(n, input);
-    let answer = tried.frame.run(HEAD, form, &input[..m], output);
-    let again = answer.frame.back(HEAD, 0);
-    let frame = again.frame;
-    Tried {
-        frame,
-        refused: one_more_if(100 < m && answer.number == 18, tried.refused),
-        accepted: one_more_if(m <= 100 && answer.number == 0, tried.accepted),
+impl Tried {
+    // No more runs than 201 are tried.
+    fn count(&mut self, m: usize, answer: Result<(), Refusal>) {
+        if 100 < m && answer == Err(Refusal::Count) {
+            self.refused = self.refused.saturating_add(1);
+        }
+        if m <= 100 && answer.is_ok() {
+            self.accepted = self.accepted.saturating_add(1);
+        }
     }
 }
 
-fn each_length(
-    to: Stdout,
-    frame: Frame,
-    form: RunForm,
-    input: &[f32],
-    output: &mut [f32],
-) -> Frame {
-    let mut tried = Tried {
-        frame,
-        refused: 0,
-        accepted: 0,
-    };
-    for n in 0..201 {
-        tried = try_length(tried, form, n, input, output);
+impl Trial {
+    fn print(&mut self, text: &[u8]) {
+        let _ = self.to.write_all(text);
     }
-    let told = say(
-        to,
-        b"up to 100 samples, accepted ",
-        tried.accepted,
-        0,
-        tried.frame,
-    );
-    say(to, b"above 100 samples, refused ", tried.refused, 18, told)
-}
 
-// To one sample short of the limit, with a mark there, and one with 100 samples left.
-fn come_near(
-    to: Stdout,
-    library: Frame,
-    entry: usize,
-    forms: Forms,
-    input: &[f32; BLOCK],
-    output: &mut [f32; BLOCK],
-) -> Frame {
-    let way = forms.way;
-    let stepped = forms.stepped;
-    let plain = forms.plain;
-    let loaded = library.load(HEAD, entry);
-    let near = blocks(loaded.frame, way, input, output);
-    let a = mark(
-        to,
-        run(to, b"stepped, samples ", near, stepped, LAST, input, output),
-    );
-    let b = each_length(
-        to,
-        each_length(to, a, stepped, input, output),
-        plain,
-        input,
-        output,
-    );
-    mark(
-        to,
-        run(to, b"stepped, samples ", b, stepped, 99, input, output),
-    )
-}
+    // A fresh frame with the sheet open.
+    fn begin_anew(&mut self) {
+        self.frame = Frame::fresh();
+        let _ = self.frame.open(&SHEET);
+    }
 
-// A sample too many, in both calls; a step of 0 and another type's form come first.
-fn go_over(
-    to: Stdout,
-    near: Frame,
-    forms: Forms,
-    input: &[f32; BLOCK],
-    first: &mut [f32; BLOCK],
-    second: &mut [f32; BLOCK],
-) -> Frame {
-    let stepped = forms.stepped;
-    let two = forms.two;
-    let no_step = forms.no_step;
-    let absent = forms.absent;
-    let a = run(to, b"stepped, samples ", near, stepped, 2, input, first);
-    let b = run_two(to, a, two, 2, input, first, second);
-    let c = run(to, b"a step of 0, samples ", b, no_step, 2, input, first);
-    run(
-        to,
-        b"another type's form, samples ",
-        c,
-        absent,
-        2,
-        input,
-        first,
-    )
-}
+    // ---- a line
 
-// The last sample, one more, and none.
-fn reach(
-    to: Stdout,
-    near: Frame,
-    stepped: RunForm,
-    input: &[f32; BLOCK],
-    output: &mut [f32; BLOCK],
-) -> Frame {
-    let a = run(to, b"stepped, samples ", near, stepped, 1, input, output);
-    let b = run(to, b"stepped, samples ", a, stepped, 1, input, output);
-    run(to, b"stepped, samples ", b, stepped, 0, input, output)
-}
+    fn put_call(&self, text: &mut Text, name: &[u8], n: usize, number: u8) {
+        put_named(text, name, n);
+        put_named(text, b": ", usize::from(number));
+        let count = self.frame.count(HEAD).unwrap_or(0);
+        put_named(text, b", count ", count as usize);
+    }
 
-// The last sample from the mark again: in two outputs, which count once, and in one.
-fn reach_again(
-    to: Stdout,
-    full: Frame,
-    forms: Forms,
-    input: &[f32; BLOCK],
-    first: &mut [f32; BLOCK],
-    second: &mut [f32; BLOCK],
-) -> Frame {
-    let stepped = forms.stepped;
-    let two = forms.two;
-    let a = run_two(to, back(to, full, 1), two, 1, input, first, second);
-    run(
-        to,
-        b"stepped, samples ",
-        back(to, a, 1),
-        stepped,
-        1,
-        input,
-        first,
-    )
-}
+    fn print_line(&mut self, mut text: Text) {
+        put(&mut text, b"\n");
+        self.print(text.as_slice());
+    }
 
-fn rest_and_load(to: Stdout, full: Frame, entry: usize) {
-    let rested = full.rest(HEAD);
-    let told = say(to, b"rest of head ", HEAD, rested.number, rested.frame);
-    let loaded = told.load(HEAD, entry);
-    say(to, b"load of entry ", entry, loaded.number, loaded.frame);
-}
+    // What is said of a call that is called `name`.
+    fn say(&mut self, name: &[u8], n: usize, number: u8) {
+        let mut text = Text::new();
+        self.put_call(&mut text, name, n, number);
+        self.print_line(text);
+    }
 
-fn try_limit(
-    to: Stdout,
-    library: Frame,
-    entry: usize,
-    forms: Forms,
-    input: &[f32; BLOCK],
-    first: &mut [f32; BLOCK],
-    second: &mut [f32; BLOCK],
-) {
-    let stepped = forms.stepped;
-    let near = go_over(
-        to,
-        come_near(to, library, entry, forms, input, first),
-        forms,
-        input,
-        first,
-        second,
-    );
-    let full = reach(to, near, stepped, input, first);
-    rest_and_load(
-        to,
-        reach_again(to, full, forms, input, first, second),
-        entry,
-    );
+    // ---- calls, each with its line
+
+    fn run(&mut self, name: &[u8], form: RunForm, n: usize, input: &[f32], output: &mut [f32]) {
+        let lent = front(n, input);
+        lend(output);
+        let answer = self.frame.run(HEAD, form, lent, output);
+        let mut text = Text::new();
+        self.put_call(&mut text, name, lent.len(), number_of(answer));
+        put_output(&mut text, first_of(output));
+        self.print_line(text);
+    }
+
+    fn run_two(
+        &mut self,
+        form: RunForm,
+        n: usize,
+        input: &[f32],
+        first: &mut [f32],
+        second: &mut [f32],
+    ) {
+        let lent = front(n, input);
+        lend(first);
+        lend(second);
+        let answer = self.frame.run_two(HEAD, form, lent, first, second);
+        let mut text = Text::new();
+        self.put_call(
+            &mut text,
+            b"two outputs, samples ",
+            lent.len(),
+            number_of(answer),
+        );
+        put_output(&mut text, first_of(first));
+        put_output(&mut text, first_of(second));
+        self.print_line(text);
+    }
+
+    fn mark(&mut self) {
+        let answer = self.frame.mark(HEAD);
+        self.say(b"mark ", answer.unwrap_or(0), number_of(answer));
+    }
+
+    fn back(&mut self, m: usize) {
+        let answer = self.frame.back(HEAD, m);
+        self.say(b"back to mark ", m, number_of(answer));
+    }
+
+    // ---- the way to the limit
+
+    fn blocks(&mut self, form: RunForm, input: &[f32], output: &mut [f32]) {
+        for _ in 0..BLOCKS {
+            let _ = self.frame.run(HEAD, form, input, output);
+        }
+    }
+
+    fn each_length(&mut self, form: RunForm, input: &[f32], output: &mut [f32]) {
+        let mut tried = Tried {
+            refused: 0,
+            accepted: 0,
+        };
+        for n in 0..201 {
+            let lent = front(n, input);
+            tried.count(lent.len(), self.frame.run(HEAD, form, lent, output));
+            let _ = self.frame.back(HEAD, 0);
+        }
+        self.say(b"up to 100 samples, accepted ", tried.accepted, 0);
+        self.say(b"above 100 samples, refused ", tried.refused, 18);
+    }
+
+    // To one sample short of the limit, with a mark there, and one with 100 samples left.
+    fn come_near(
+        &mut self,
+        entry: usize,
+        forms: Forms,
+        input: &[f32; BLOCK],
+        output: &mut [f32; BLOCK],
+    ) {
+        let _ = self.frame.load(HEAD, entry);
+        self.blocks(forms.way, input, output);
+        self.run(b"stepped, samples ", forms.stepped, LAST, input, output);
+        self.mark();
+        self.each_length(forms.stepped, input, output);
+        self.each_length(forms.plain, input, output);
+        self.run(b"stepped, samples ", forms.stepped, 99, input, output);
+        self.mark();
+    }
+
+    // A sample too many, in both calls; a step of 0 and another type's form come first.
+    fn go_over(
+        &mut self,
+        forms: Forms,
+        input: &[f32; BLOCK],
+        first: &mut [f32; BLOCK],
+        second: &mut [f32; BLOCK],
+    ) {
+        self.run(b"stepped, samples ", forms.stepped, 2, input, first);
+        self.run_two(forms.two, 2, input, first, second);
+        self.run(b"a step of 0, samples ", forms.no_step, 2, input, first);
+        self.run(
+            b"another type's form, samples ",
+            forms.absent,
+            2,
+            input,
+            first,
+        );
+    }
+
+    // The last sample, one more, and none.
+    fn reach(&mut self, stepped: RunForm, input: &[f32; BLOCK], output: &mut [f32; BLOCK]) {
+        for n in [1, 1, 0] {
+            self.run(b"stepped, samples ", stepped, n, input, output);
+        }
+    }
+
+    // The last sample from the mark again: in two outputs, which count once, and in one.
+    fn reach_again(
+        &mut self,
+        forms: Forms,
+        input: &[f32; BLOCK],
+        first: &mut [f32; BLOCK],
+        second: &mut [f32; BLOCK],
+    ) {
+        self.back(1);
+        self.run_two(forms.two, 1, input, first, second);
+        self.back(1);
+        self.run(b"stepped, samples ", forms.stepped, 1, input, first);
+    }
+
+    fn rest_and_load(&mut self, entry: usize) {
+        let rested = self.frame.rest(HEAD);
+        self.say(b"rest of head ", HEAD, number_of(rested));
+        let loaded = self.frame.load(HEAD, entry);
+        self.say(b"load of entry ", entry, number_of(loaded));
+    }
+
+    fn try_limit(
+        &mut self,
+        entry: usize,
+        forms: Forms,
+        input: &[f32; BLOCK],
+        first: &mut [f32; BLOCK],
+        second: &mut [f32; BLOCK],
+    ) {
+        self.come_near(entry, forms, input, first);
+        self.go_over(forms, input, first, second);
+        self.reach(forms.stepped, input, first);
+        self.reach_again(forms, input, first, second);
+        self.rest_and_load(entry);
+    }
 }

@@ -3,7 +3,9 @@
 
 #![tactic(auto)]
 
-use filter_core::{FilterMode, FrequencyApproximation};
+use arrayvec::ArrayVec;
+use digits::put;
+use filter_core::{FilterMode, FrequencyApproximation, Refusal};
 use std::io::writer;
 use std::time::Clock;
 use svf::Svf;
@@ -17,23 +19,39 @@ const LEAF_Y: [f32; 16] = [
     0.0, 1.0, 0.5, 1.75, 1.25, 2.5, 1.5, 1.25, 0.0, -1.25, -1.5, -2.5, -1.25, -1.75, -0.5, -1.0,
 ];
 
+type Text = ArrayVec<u8, 2048>;
+
+// A point of the outline.
+#[derive(Clone, Copy)]
+struct Point {
+    x: f32,
+    y: f32,
+}
+
 fn main(rt: HostRuntime) {
-    let x = LEAF_X;
-    let y = LEAF_Y;
     let mut smooth_x = [0.0f32; 16];
     let mut smooth_y = [0.0f32; 16];
-    smooth(&x, &mut smooth_x);
-    smooth(&y, &mut smooth_y);
-    let mut text = [0u8; 2048];
-    let at = put_heading(&mut text);
-    let end = put_points(&x, &y, &smooth_x, &smooth_y, &mut text, at);
-    print(&rt, &text, end);
+    let x = LEAF_X;
+    let y = LEAF_Y;
+    // Exact takes every frequency from -0.497 on.
+    let _ = smooth(&x, &mut smooth_x);
+    let _ = smooth(&y, &mut smooth_y);
+    let mut text = Text::new();
+    put_heading(&mut text);
+    for i in 0..16 {
+        let drawn = Point { x: x[i], y: y[i] };
+        let smoothed = Point {
+            x: smooth_x[i],
+            y: smooth_y[i],
+        };
+        put_line(&mut text, i, drawn, smoothed);
+    }
+    print(&rt, text.as_slice());
 }
 
 // The text goes out by one write, or standard error says why it does not.
-fn print<R: Print + Eprint + Clock>(rt: &R, text: &[u8], end: usize) {
-    let n = streams::within(end, text);
-    if let Err(unwritten) = streams::write(&mut writer(rt), rt, &text[..n]) {
+fn print<R: Print + Eprint + Clock>(rt: &R, text: &[u8]) {
+    if let Err(unwritten) = streams::write(&mut writer(rt), rt, text) {
         let error = unwritten.error;
         let _ = eprintln!(rt; "outline: cannot write the points: {error}");
     }
@@ -41,103 +59,75 @@ fn print<R: Print + Eprint + Clock>(rt: &R, text: &[u8], end: usize) {
 
 // The filter goes round the outline twice, and what it answers in the second round counts: the outline has no start at which it could be
 // at rest.
-fn smooth(line: &[f32; 16], out: &mut [f32; 16]) {
-    let set = Svf::new().set_f_q(0.15, 0.7, FrequencyApproximation::Exact);
-    let f = set.filter;
-    let round = f.process_buffer(line, out, FilterMode::LowPass);
-    round.process_buffer(line, out, FilterMode::LowPass);
-}
-
-fn put_heading(out: &mut [u8]) -> usize {
-    let a = lists::put(
-        b"A leaf as drawn and as smoothed, in thousandths of a stitch unit. A low-pass filter\n",
-        out,
-        0,
-    );
-    let b = lists::put(
-        b"for each coordinate takes the jags out; it knows only the points before, so that the\n",
-        out,
-        a,
-    );
-    let c = lists::put(
-        b"smoothed outline lags a point or two behind: that is why every point moved.\n\n",
-        out,
-        b,
-    );
-    lists::put(
-        b"    point  drawn x        y smooth x        y  moved x        y\n",
-        out,
-        c,
-    )
-}
-
-fn put_points(
-    x: &[f32; 16],
-    y: &[f32; 16],
-    smooth_x: &[f32; 16],
-    smooth_y: &[f32; 16],
-    out: &mut [u8],
-    at: usize,
-) -> usize {
-    let mut to = at;
-    for i in 0..16 {
-        to = put_point(i, x[i], y[i], smooth_x[i], smooth_y[i], out, to);
+fn smooth(line: &[f32; 16], out: &mut [f32; 16]) -> Result<(), Refusal> {
+    let mut filter = Svf::new();
+    filter.set_f_q(0.15, 0.7, FrequencyApproximation::Exact)?;
+    for _ in 0..2 {
+        filter.process_buffer(line, out, FilterMode::LowPass);
     }
-    to
+    Ok(())
 }
 
-fn put_point(
-    i: usize,
-    x: f32,
-    y: f32,
-    smooth_x: f32,
-    smooth_y: f32,
-    out: &mut [u8],
-    at: usize,
-) -> usize {
-    let a = put_number(false, i as u64, out, at);
-    let b = put_pair(x, y, out, a);
-    let c = put_pair(smooth_x, smooth_y, out, b);
-    let d = put_pair(smooth_x - x, smooth_y - y, out, c);
-    lists::put(b"\n", out, d)
+fn put_heading(text: &mut Text) {
+    put(
+        text,
+        b"A leaf as drawn and as smoothed, in thousandths of a stitch unit. A low-pass filter\n",
+    );
+    put(
+        text,
+        b"for each coordinate takes the jags out; it knows only the points before, so that the\n",
+    );
+    put(
+        text,
+        b"smoothed outline lags a point or two behind: that is why every point moved.\n\n",
+    );
+    put(
+        text,
+        b"    point  drawn x        y smooth x        y  moved x        y\n",
+    );
 }
 
-fn put_pair(x: f32, y: f32, out: &mut [u8], at: usize) -> usize {
-    let a = put_thousandths(x, out, at);
-    put_thousandths(y, out, a)
+fn put_line(text: &mut Text, i: usize, drawn: Point, smoothed: Point) {
+    put_number(text, false, i as u64);
+    put_point(text, drawn);
+    put_point(text, smoothed);
+    let moved = Point {
+        x: smoothed.x - drawn.x,
+        y: smoothed.y - drawn.y,
+    };
+    put_point(text, moved);
+    put(text, b"\n");
 }
 
-fn put_thousandths(v: f32, out: &mut [u8], at: usize) -> usize {
+fn put_point(text: &mut Text, point: Point) {
+    put_thousandths(text, point.x);
+    put_thousandths(text, point.y);
+}
+
+fn put_thousandths(text: &mut Text, v: f32) {
     if v < 0.0 {
         let n = thousandths(-v);
-        return put_number(0 < n, n, out, at);
+        put_number(text, 0 < n, n);
+    } else {
+        put_number(text, false, thousandths(v));
     }
-    put_number(false, thousandths(v), out, at)
 }
 
 // In nine places, the last digit in the last of them.
-fn put_number(negative: bool, n: u64, out: &mut [u8], at: usize) -> usize {
+fn put_number(text: &mut Text, negative: bool, n: u64) {
     let mut digits = [0u8; 20];
     let k = io::decimal(n, &mut digits);
-    let a = put_space(k, out, at);
-    let b = put_sign(negative, out, a);
-    lists::put(&digits[..k], out, b)
+    put_space(text, k);
+    put(text, if negative { b"-" } else { b" " });
+    put(text, &digits[..k]);
 }
 
 // The space before a sign and k digits.
-fn put_space(k: usize, out: &mut [u8], at: usize) -> usize {
-    if 8 < k {
-        return at;
-    }
+fn put_space(text: &mut Text, k: usize) {
     let space: &[u8] = b"        ";
-    lists::put(&space[k..], out, at)
-}
-
-fn put_sign(negative: bool, out: &mut [u8], at: usize) -> usize {
-    if negative {
-        return lists::put(b"-", out, at);
+    if k <= 8 {
+        put(text, &space[k..]);
     }
-    lists::put(b" ", out, at)
 }
 
 // The nearest number of thousandths; 0 where that is no u64.
