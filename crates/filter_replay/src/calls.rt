@@ -1,10 +1,13 @@
 // The exported functions by number: 10 and up DcBlocker, 20 OnePole, 30 Svf, 50 NaiveSvf, 60 ModifiedSvf, 70 CrossoverSvf; the buffer
 // forms 100 above.
 
+ghost use Rattle.std.specs.Prelude.{◌≤◌};
+
 use filter_exports::{
     crossover_svf_calls, dc_blocker_calls, modified_svf_calls, naive_svf_calls, one_pole_calls,
     svf_calls,
 };
+use std::array;
 
 // What a call takes besides its filter and its buffers.
 #[derive(Clone, Copy)]
@@ -28,32 +31,21 @@ pub(crate) struct Lengths {
 // What a number that names no method answers.
 const NO_METHOD: u8 = 255;
 
-fn three(w: &[f32; 8]) -> [f32; 3] {
-    [w[0], w[1], w[2]]
+// The fields of a filter that has N of them, at the front of a record's state.
+fn fields<const N: usize>(w: &[f32; 8]) -> [f32; N]
+    requires { N ≤ 8 }
+{
+    array::from_fn(|i| w[i])
 }
 
-fn put_three(w: &mut [f32; 8], s: [f32; 3]) {
-    *w = [s[0], s[1], s[2], w[3], w[4], w[5], w[6], w[7]];
-}
-
-fn four(w: &[f32; 8]) -> [f32; 4] {
-    [w[0], w[1], w[2], w[3]]
-}
-
-fn put_four(w: &mut [f32; 8], s: [f32; 4]) {
-    *w = [s[0], s[1], s[2], s[3], w[4], w[5], w[6], w[7]];
-}
-
-fn five(w: &[f32; 8]) -> [f32; 5] {
-    [w[0], w[1], w[2], w[3], w[4]]
-}
-
-fn put_five(w: &mut [f32; 8], s: [f32; 5]) {
-    *w = [s[0], s[1], s[2], s[3], s[4], w[5], w[6], w[7]];
+fn put_fields<const N: usize>(w: &mut [f32; 8], s: [f32; N])
+    requires { N ≤ 8 }
+{
+    w[..N].copy_from_slice(&s);
 }
 
 fn dc_blocker(method: u32, t: Settings, w: &mut [f32; 8]) -> u8 {
-    let mut s = three(w);
+    let mut s: [f32; 3] = fields(w);
     let number = match method {
         10 => {
             dc_blocker_calls::dc_blocker_new(&mut s);
@@ -65,12 +57,12 @@ fn dc_blocker(method: u32, t: Settings, w: &mut [f32; 8]) -> u8 {
         }
         _ => NO_METHOD,
     };
-    put_three(w, s);
+    put_fields(w, s);
     number
 }
 
 fn one_pole_settings(method: u32, t: Settings, w: &mut [f32; 8]) -> u8 {
-    let mut s = three(w);
+    let mut s: [f32; 3] = fields(w);
     let number = match method {
         20 => {
             one_pole_calls::one_pole_new(&mut s);
@@ -87,14 +79,14 @@ fn one_pole_settings(method: u32, t: Settings, w: &mut [f32; 8]) -> u8 {
         24 => one_pole_calls::one_pole_set_f(&mut s, t.p, t.a),
         _ => NO_METHOD,
     };
-    put_three(w, s);
+    put_fields(w, s);
     number
 }
 
 fn one_pole_sample(t: Settings, w: &mut [f32; 8], y: &mut f32) -> u8 {
-    let mut s = three(w);
+    let mut s: [f32; 3] = fields(w);
     let number = one_pole_calls::one_pole_process(&mut s, t.p, t.a, y);
-    put_three(w, s);
+    put_fields(w, s);
     number
 }
 
@@ -107,8 +99,8 @@ fn one_pole(method: u32, t: Settings, w: &mut [f32; 8], y: &mut f32) -> u8 {
 }
 
 fn svf_states(method: u32, w: &mut [f32; 8], input: &[f32; 8]) -> u8 {
-    let mut s = five(w);
-    let other = five(input);
+    let mut s: [f32; 5] = fields(w);
+    let other: [f32; 5] = fields(input);
     let number = match method {
         30 => {
             svf_calls::svf_new(&mut s);
@@ -128,12 +120,12 @@ fn svf_states(method: u32, w: &mut [f32; 8], input: &[f32; 8]) -> u8 {
         }
         _ => NO_METHOD,
     };
-    put_five(w, s);
+    put_fields(w, s);
     number
 }
 
 fn svf_settings(method: u32, t: Settings, w: &mut [f32; 8]) -> u8 {
-    let mut s = five(w);
+    let mut s: [f32; 5] = fields(w);
     let number = match method {
         34 => {
             svf_calls::svf_set_g_r_h(&mut s, t.p, t.q, t.r);
@@ -150,12 +142,12 @@ fn svf_settings(method: u32, t: Settings, w: &mut [f32; 8]) -> u8 {
         37 => svf_calls::svf_set_f_q(&mut s, t.p, t.q, t.a),
         _ => NO_METHOD,
     };
-    put_five(w, s);
+    put_fields(w, s);
     number
 }
 
 fn svf_read(method: u32, w: &[f32; 8], y: &mut f32) -> u8 {
-    let s = five(w);
+    let s: [f32; 5] = fields(w);
     *y = match method {
         38 => svf_calls::svf_g(&s),
         39 => svf_calls::svf_r(&s),
@@ -165,18 +157,18 @@ fn svf_read(method: u32, w: &[f32; 8], y: &mut f32) -> u8 {
 }
 
 fn svf_sample(method: u32, t: Settings, w: &mut [f32; 8], y: &mut f32, z: &mut f32) -> u8 {
-    let mut s = five(w);
+    let mut s: [f32; 5] = fields(w);
     let number = match method {
         41 => svf_calls::svf_process(&mut s, t.p, t.a, y),
         42 => svf_calls::svf_process_dual(&mut s, t.p, y, z, t.a, t.b),
         _ => NO_METHOD,
     };
-    put_five(w, s);
+    put_fields(w, s);
     number
 }
 
 fn naive_svf_settings(method: u32, t: Settings, w: &mut [f32; 8]) -> u8 {
-    let mut s = four(w);
+    let mut s: [f32; 4] = fields(w);
     let number = match method {
         50 => {
             naive_svf_calls::naive_svf_new(&mut s);
@@ -193,12 +185,12 @@ fn naive_svf_settings(method: u32, t: Settings, w: &mut [f32; 8]) -> u8 {
         53 => naive_svf_calls::naive_svf_set_f_q(&mut s, t.p, t.q, t.a),
         _ => NO_METHOD,
     };
-    put_four(w, s);
+    put_fields(w, s);
     number
 }
 
 fn naive_svf_read(method: u32, w: &[f32; 8], y: &mut f32) -> u8 {
-    let s = four(w);
+    let s: [f32; 4] = fields(w);
     *y = match method {
         54 => naive_svf_calls::naive_svf_lp(&s),
         _ => naive_svf_calls::naive_svf_bp(&s),
@@ -207,9 +199,9 @@ fn naive_svf_read(method: u32, w: &[f32; 8], y: &mut f32) -> u8 {
 }
 
 fn naive_svf_sample(t: Settings, w: &mut [f32; 8], y: &mut f32) -> u8 {
-    let mut s = four(w);
+    let mut s: [f32; 4] = fields(w);
     let number = naive_svf_calls::naive_svf_process(&mut s, t.p, t.a, y);
-    put_four(w, s);
+    put_fields(w, s);
     number
 }
 
@@ -222,7 +214,7 @@ fn naive_svf(method: u32, t: Settings, w: &mut [f32; 8], y: &mut f32) -> u8 {
 }
 
 fn modified_svf(method: u32, t: Settings, w: &mut [f32; 8]) -> u8 {
-    let mut s = five(w);
+    let mut s: [f32; 5] = fields(w);
     let number = match method {
         60 => {
             modified_svf_calls::modified_svf_new(&mut s);
@@ -242,7 +234,7 @@ fn modified_svf(method: u32, t: Settings, w: &mut [f32; 8]) -> u8 {
         }
         _ => NO_METHOD,
     };
-    put_five(w, s);
+    put_fields(w, s);
     number
 }
 
@@ -300,23 +292,17 @@ fn svf_form(
     out_1: &mut [f32],
     out_2: &mut [f32],
 ) -> u8 {
-    if method == 130 {
-        return svf_calls::svf_process_buffer(s, in_, out_1, t.a);
+    match method {
+        130 => svf_calls::svf_process_buffer(s, in_, out_1, t.a),
+        131 => svf_calls::svf_process_add_buffer(s, in_, out_1, t.p, t.a),
+        132 => svf_calls::svf_process_stride_buffer(s, in_, out_1, t.step, t.a),
+        133 => {
+            svf_calls::svf_process_multimode_buffer(s, in_, out_1, t.p);
+            0
+        }
+        134 => svf_calls::svf_process_add_dual_buffer(s, in_, out_1, out_2, t.p, t.q, t.a),
+        _ => NO_METHOD,
     }
-    if method == 131 {
-        return svf_calls::svf_process_add_buffer(s, in_, out_1, t.p, t.a);
-    }
-    if method == 132 {
-        return svf_calls::svf_process_stride_buffer(s, in_, out_1, t.step, t.a);
-    }
-    if method == 133 {
-        svf_calls::svf_process_multimode_buffer(s, in_, out_1, t.p);
-        return 0;
-    }
-    if method == 134 {
-        return svf_calls::svf_process_add_dual_buffer(s, in_, out_1, out_2, t.p, t.q, t.a);
-    }
-    NO_METHOD
 }
 
 fn naive_svf_form(
@@ -327,30 +313,28 @@ fn naive_svf_form(
     out_1: &mut [f32],
     out_2: &mut [f32],
 ) -> u8 {
-    if method == 150 {
-        return naive_svf_calls::naive_svf_process_buffer(s, in_, out_1, t.a);
+    match method {
+        150 => naive_svf_calls::naive_svf_process_buffer(s, in_, out_1, t.a),
+        151 => {
+            naive_svf_calls::naive_svf_split(s, in_, out_1, out_2);
+            0
+        }
+        152 => naive_svf_calls::naive_svf_process_decimate(s, in_, out_1, t.step, t.a),
+        _ => NO_METHOD,
     }
-    if method == 151 {
-        naive_svf_calls::naive_svf_split(s, in_, out_1, out_2);
-        return 0;
-    }
-    if method == 152 {
-        return naive_svf_calls::naive_svf_process_decimate(s, in_, out_1, t.step, t.a);
-    }
-    NO_METHOD
 }
 
 fn dc_blocker_buffer(w: &mut [f32; 8], in_out: &mut [f32]) -> u8 {
-    let mut s = three(w);
+    let mut s: [f32; 3] = fields(w);
     dc_blocker_calls::dc_blocker_process(&mut s, in_out);
-    put_three(w, s);
+    put_fields(w, s);
     0
 }
 
 fn modified_svf_buffer(t: Settings, w: &mut [f32; 8], in_: &[f32], out: &mut [f32]) -> u8 {
-    let mut s = five(w);
+    let mut s: [f32; 5] = fields(w);
     let number = modified_svf_calls::modified_svf_process(&mut s, in_, out, t.a);
-    put_five(w, s);
+    put_fields(w, s);
     number
 }
 
@@ -362,9 +346,9 @@ fn svf_buffers(
     out_1: &mut [f32],
     out_2: &mut [f32],
 ) -> u8 {
-    let mut s = five(w);
+    let mut s: [f32; 5] = fields(w);
     let number = svf_form(method, t, &mut s, in_, out_1, out_2);
-    put_five(w, s);
+    put_fields(w, s);
     number
 }
 
@@ -376,9 +360,9 @@ fn naive_svf_buffers(
     out_1: &mut [f32],
     out_2: &mut [f32],
 ) -> u8 {
-    let mut s = four(w);
+    let mut s: [f32; 4] = fields(w);
     let number = naive_svf_form(method, t, &mut s, in_, out_1, out_2);
-    put_four(w, s);
+    put_fields(w, s);
     number
 }
 
@@ -390,19 +374,14 @@ fn whole(
     out_1: &mut [f32],
     out_2: &mut [f32],
 ) -> u8 {
-    if method == 110 {
-        return dc_blocker_buffer(w, out_1);
+    match method {
+        110 => dc_blocker_buffer(w, out_1),
+        130..=149 => svf_buffers(method, t, w, in_, out_1, out_2),
+        150..=159 => naive_svf_buffers(method, t, w, in_, out_1, out_2),
+        160 => modified_svf_buffer(t, w, in_, out_1),
+        170 => crossover_svf_calls::crossover_svf_process(w, in_, out_1, t.a),
+        _ => NO_METHOD,
     }
-    if method == 160 {
-        return modified_svf_buffer(t, w, in_, out_1);
-    }
-    if method == 170 {
-        return crossover_svf_calls::crossover_svf_process(w, in_, out_1, t.a);
-    }
-    if method < 150 {
-        return svf_buffers(method, t, w, in_, out_1, out_2);
-    }
-    naive_svf_buffers(method, t, w, in_, out_1, out_2)
 }
 
 // A buffer form, over parts of its buffers.

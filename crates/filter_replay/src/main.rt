@@ -14,15 +14,11 @@ use std::io::{Read, Result};
 mod calls;
 mod record;
 
-fn wide(n: u32) -> u64 {
-    n as u64
-}
-
 fn settings(w: &[u32; 68]) -> Settings {
     Settings {
         a: w[1],
         b: w[2],
-        step: (wide(w[3]) | (wide(w[4]) << 32)) as usize,
+        step: (u64::from(w[3]) | (u64::from(w[4]) << 32)) as usize,
         p: words::word_to_f32(w[5]),
         q: words::word_to_f32(w[6]),
         r: words::word_to_f32(w[7]),
@@ -31,9 +27,9 @@ fn settings(w: &[u32; 68]) -> Settings {
 
 fn lengths(w: &[u32; 68]) -> Lengths {
     Lengths {
-        input: wide(w[8]) as usize,
-        out_1: wide(w[9]) as usize,
-        out_2: wide(w[10]) as usize,
+        input: w[8] as usize,
+        out_1: w[9] as usize,
+        out_2: w[10] as usize,
     }
 }
 
@@ -63,31 +59,17 @@ fn agrees(w: &[u32; 68]) -> bool {
     let mut out_1 = record::eight(w, 28);
     let mut out_2 = record::eight(w, 36);
     let number = answer(w, &mut state, &input, &mut out_1, &mut out_2);
-    if wide(w[11]) != number as u64 {
-        return false;
-    }
-    record::same(&state, w, 44) && record::same(&out_1, w, 52) && record::same(&out_2, w, 60)
+    w[11] == u32::from(number)
+        && record::same(&state, w, 44)
+        && record::same(&out_1, w, 52)
+        && record::same(&out_2, w, 60)
 }
 
-// What the next block is: a record of a method, or the end.
-#[derive(Clone, Copy)]
-enum Found {
-    Agrees(u32),
-    Differs(u32),
-    End,
-}
-
-fn next_record<F: Read>(from: &mut F) -> Found {
+// The next record; None at the end.
+fn next_record<F: Read>(from: &mut F) -> Option<[u32; 68]> {
     let mut block = [0u8; 272];
-    if from.read_exact(&mut block).is_err() {
-        return Found::End;
-    }
-    let w = record::record(&block);
-    if agrees(&w) {
-        Found::Agrees(w[0])
-    } else {
-        Found::Differs(w[0])
-    }
+    from.read_exact(&mut block).ok()?;
+    Some(record::record(&block))
 }
 
 // The records that agree, by type, and those that differ.
@@ -105,40 +87,22 @@ struct Counts {
 // A proved loop has to end, and nothing says that a file does: so many records are read at most.
 const MOST: u64 = 1000000;
 
-fn one_more(n: u64) -> u64 {
-    if n < MOST { n + 1 } else { n }
-}
-
 impl Counts {
-    fn agrees(mut self, method: u32) -> Counts {
-        let m = method % 100;
-        if m < 20 {
-            self.dc_blocker = one_more(self.dc_blocker);
-            return self;
-        }
-        if m < 30 {
-            self.one_pole = one_more(self.one_pole);
-            return self;
-        }
-        if m < 50 {
-            self.svf = one_more(self.svf);
-            return self;
-        }
-        if m < 60 {
-            self.naive_svf = one_more(self.naive_svf);
-            return self;
-        }
-        if m < 70 {
-            self.modified_svf = one_more(self.modified_svf);
-            return self;
-        }
-        self.crossover_svf = one_more(self.crossover_svf);
-        self
+    // One more that agrees, of the type that the method belongs to.
+    fn agree(&mut self, method: u32) {
+        let count = match method % 100 {
+            0..=19 => &mut self.dc_blocker,
+            20..=29 => &mut self.one_pole,
+            30..=49 => &mut self.svf,
+            50..=59 => &mut self.naive_svf,
+            60..=69 => &mut self.modified_svf,
+            _ => &mut self.crossover_svf,
+        };
+        *count = count.saturating_add(1);
     }
 
-    fn differs(mut self) -> Counts {
-        self.differ = one_more(self.differ);
-        self
+    fn differ(&mut self) {
+        self.differ = self.differ.saturating_add(1);
     }
 }
 
@@ -166,21 +130,15 @@ fn replay<R: Print, F: Read>(rt: &R, from: &mut F) -> Result<()> {
         crossover_svf: 0,
         differ: 0,
     };
-    let mut left = MOST;
-    while 0 < left {
-        match next_record(from) {
-            Found::Agrees(method) => {
-                counts = counts.agrees(method);
-                left -= 1;
-            }
-            Found::Differs(method) => {
-                print(rt, "differs: method ", wide(method))?;
-                counts = counts.differs();
-                left -= 1;
-            }
-            Found::End => {
-                left = 0;
-            }
+    for _ in 0..MOST {
+        let Some(w) = next_record(from) else {
+            break;
+        };
+        if agrees(&w) {
+            counts.agree(w[0]);
+        } else {
+            print(rt, "differs: method ", u64::from(w[0]))?;
+            counts.differ();
         }
     }
     report(rt, counts)
