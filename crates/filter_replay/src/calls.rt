@@ -31,63 +31,52 @@ pub(crate) struct Lengths {
 // What a number that names no method answers.
 const NO_METHOD: u8 = 255;
 
-// The fields of a filter that has N of them, at the front of a record's state.
-fn fields<const N: usize>(w: &[f32; 8]) -> [f32; N]
-    requires { N ≤ 8 }
+// Makes a call on a filter that has N fields, which stand at the front of a record's state.
+fn on_fields<const N: usize, F: FnOnce(&mut [f32; N]) -> u8>(w: &mut [f32; 8], call: F) -> u8
+    requires small { N ≤ 8 }
+    requires callable { F.IsAlwaysCallable call }
 {
-    array::from_fn(|i| w[i])
-}
-
-fn put_fields<const N: usize>(w: &mut [f32; 8], s: [f32; N])
-    requires { N ≤ 8 }
-{
+    let mut s: [f32; N] = array::from_fn(|i| w[i]);
+    let number = call(&mut s);
     w[..N].copy_from_slice(&s);
+    number
 }
 
 fn dc_blocker(method: u32, t: Settings, w: &mut [f32; 8]) -> u8 {
-    let mut s: [f32; 3] = fields(w);
-    let number = match method {
+    on_fields(w, |s: &mut [f32; 3]| match method {
         10 => {
-            dc_blocker_calls::dc_blocker_new(&mut s);
+            dc_blocker_calls::dc_blocker_new(s);
             0
         }
         11 => {
-            dc_blocker_calls::dc_blocker_init(&mut s, t.p);
+            dc_blocker_calls::dc_blocker_init(s, t.p);
             0
         }
         _ => NO_METHOD,
-    };
-    put_fields(w, s);
-    number
+    })
 }
 
 fn one_pole_settings(method: u32, t: Settings, w: &mut [f32; 8]) -> u8 {
-    let mut s: [f32; 3] = fields(w);
-    let number = match method {
+    on_fields(w, |s: &mut [f32; 3]| match method {
         20 => {
-            one_pole_calls::one_pole_new(&mut s);
+            one_pole_calls::one_pole_new(s);
             0
         }
         21 => {
-            one_pole_calls::one_pole_init(&mut s);
+            one_pole_calls::one_pole_init(s);
             0
         }
         22 => {
-            one_pole_calls::one_pole_reset(&mut s);
+            one_pole_calls::one_pole_reset(s);
             0
         }
-        24 => one_pole_calls::one_pole_set_f(&mut s, t.p, t.a),
+        24 => one_pole_calls::one_pole_set_f(s, t.p, t.a),
         _ => NO_METHOD,
-    };
-    put_fields(w, s);
-    number
+    })
 }
 
 fn one_pole_sample(t: Settings, w: &mut [f32; 8], y: &mut f32) -> u8 {
-    let mut s: [f32; 3] = fields(w);
-    let number = one_pole_calls::one_pole_process(&mut s, t.p, t.a, y);
-    put_fields(w, s);
-    number
+    on_fields(w, |s: &mut [f32; 3]| one_pole_calls::one_pole_process(s, t.p, t.a, y))
 }
 
 fn one_pole(method: u32, t: Settings, w: &mut [f32; 8], y: &mut f32) -> u8 {
@@ -99,55 +88,51 @@ fn one_pole(method: u32, t: Settings, w: &mut [f32; 8], y: &mut f32) -> u8 {
 }
 
 fn svf_states(method: u32, w: &mut [f32; 8], input: &[f32; 8]) -> u8 {
-    let mut s: [f32; 5] = fields(w);
-    let other: [f32; 5] = fields(input);
-    let number = match method {
+    let [g, r, h, state_1, state_2, _, _, _] = *input;
+    let other = [g, r, h, state_1, state_2];
+    on_fields(w, |s: &mut [f32; 5]| match method {
         30 => {
-            svf_calls::svf_new(&mut s);
+            svf_calls::svf_new(s);
             0
         }
         31 => {
-            svf_calls::svf_init(&mut s);
+            svf_calls::svf_init(s);
             0
         }
         32 => {
-            svf_calls::svf_reset(&mut s);
+            svf_calls::svf_reset(s);
             0
         }
         33 => {
-            svf_calls::svf_set(&mut s, &other);
+            svf_calls::svf_set(s, &other);
             0
         }
         _ => NO_METHOD,
-    };
-    put_fields(w, s);
-    number
+    })
 }
 
 fn svf_settings(method: u32, t: Settings, w: &mut [f32; 8]) -> u8 {
-    let mut s: [f32; 5] = fields(w);
-    let number = match method {
+    on_fields(w, |s: &mut [f32; 5]| match method {
         34 => {
-            svf_calls::svf_set_g_r_h(&mut s, t.p, t.q, t.r);
+            svf_calls::svf_set_g_r_h(s, t.p, t.q, t.r);
             0
         }
         35 => {
-            svf_calls::svf_set_g_r(&mut s, t.p, t.q);
+            svf_calls::svf_set_g_r(s, t.p, t.q);
             0
         }
         36 => {
-            svf_calls::svf_set_g_q(&mut s, t.p, t.q);
+            svf_calls::svf_set_g_q(s, t.p, t.q);
             0
         }
-        37 => svf_calls::svf_set_f_q(&mut s, t.p, t.q, t.a),
+        37 => svf_calls::svf_set_f_q(s, t.p, t.q, t.a),
         _ => NO_METHOD,
-    };
-    put_fields(w, s);
-    number
+    })
 }
 
 fn svf_read(method: u32, w: &[f32; 8], y: &mut f32) -> u8 {
-    let s: [f32; 5] = fields(w);
+    let [g, r, h, state_1, state_2, _, _, _] = *w;
+    let s = [g, r, h, state_1, state_2];
     *y = match method {
         38 => svf_calls::svf_g(&s),
         39 => svf_calls::svf_r(&s),
@@ -157,40 +142,35 @@ fn svf_read(method: u32, w: &[f32; 8], y: &mut f32) -> u8 {
 }
 
 fn svf_sample(method: u32, t: Settings, w: &mut [f32; 8], y: &mut f32, z: &mut f32) -> u8 {
-    let mut s: [f32; 5] = fields(w);
-    let number = match method {
-        41 => svf_calls::svf_process(&mut s, t.p, t.a, y),
-        42 => svf_calls::svf_process_dual(&mut s, t.p, y, z, t.a, t.b),
+    on_fields(w, |s: &mut [f32; 5]| match method {
+        41 => svf_calls::svf_process(s, t.p, t.a, y),
+        42 => svf_calls::svf_process_dual(s, t.p, y, z, t.a, t.b),
         _ => NO_METHOD,
-    };
-    put_fields(w, s);
-    number
+    })
 }
 
 fn naive_svf_settings(method: u32, t: Settings, w: &mut [f32; 8]) -> u8 {
-    let mut s: [f32; 4] = fields(w);
-    let number = match method {
+    on_fields(w, |s: &mut [f32; 4]| match method {
         50 => {
-            naive_svf_calls::naive_svf_new(&mut s);
+            naive_svf_calls::naive_svf_new(s);
             0
         }
         51 => {
-            naive_svf_calls::naive_svf_init(&mut s);
+            naive_svf_calls::naive_svf_init(s);
             0
         }
         52 => {
-            naive_svf_calls::naive_svf_reset(&mut s);
+            naive_svf_calls::naive_svf_reset(s);
             0
         }
-        53 => naive_svf_calls::naive_svf_set_f_q(&mut s, t.p, t.q, t.a),
+        53 => naive_svf_calls::naive_svf_set_f_q(s, t.p, t.q, t.a),
         _ => NO_METHOD,
-    };
-    put_fields(w, s);
-    number
+    })
 }
 
 fn naive_svf_read(method: u32, w: &[f32; 8], y: &mut f32) -> u8 {
-    let s: [f32; 4] = fields(w);
+    let [f, damp, lp, bp, _, _, _, _] = *w;
+    let s = [f, damp, lp, bp];
     *y = match method {
         54 => naive_svf_calls::naive_svf_lp(&s),
         _ => naive_svf_calls::naive_svf_bp(&s),
@@ -199,10 +179,7 @@ fn naive_svf_read(method: u32, w: &[f32; 8], y: &mut f32) -> u8 {
 }
 
 fn naive_svf_sample(t: Settings, w: &mut [f32; 8], y: &mut f32) -> u8 {
-    let mut s: [f32; 4] = fields(w);
-    let number = naive_svf_calls::naive_svf_process(&mut s, t.p, t.a, y);
-    put_fields(w, s);
-    number
+    on_fields(w, |s: &mut [f32; 4]| naive_svf_calls::naive_svf_process(s, t.p, t.a, y))
 }
 
 fn naive_svf(method: u32, t: Settings, w: &mut [f32; 8], y: &mut f32) -> u8 {
@@ -214,28 +191,25 @@ fn naive_svf(method: u32, t: Settings, w: &mut [f32; 8], y: &mut f32) -> u8 {
 }
 
 fn modified_svf(method: u32, t: Settings, w: &mut [f32; 8]) -> u8 {
-    let mut s: [f32; 5] = fields(w);
-    let number = match method {
+    on_fields(w, |s: &mut [f32; 5]| match method {
         60 => {
-            modified_svf_calls::modified_svf_new(&mut s);
+            modified_svf_calls::modified_svf_new(s);
             0
         }
         61 => {
-            modified_svf_calls::modified_svf_init(&mut s);
+            modified_svf_calls::modified_svf_init(s);
             0
         }
         62 => {
-            modified_svf_calls::modified_svf_reset(&mut s);
+            modified_svf_calls::modified_svf_reset(s);
             0
         }
         63 => {
-            modified_svf_calls::modified_svf_set_f_fq(&mut s, t.p, t.q);
+            modified_svf_calls::modified_svf_set_f_fq(s, t.p, t.q);
             0
         }
         _ => NO_METHOD,
-    };
-    put_fields(w, s);
-    number
+    })
 }
 
 fn crossover_svf(method: u32, t: Settings, w: &mut [f32; 8]) -> u8 {
@@ -325,17 +299,14 @@ fn naive_svf_form(
 }
 
 fn dc_blocker_buffer(w: &mut [f32; 8], in_out: &mut [f32]) -> u8 {
-    let mut s: [f32; 3] = fields(w);
-    dc_blocker_calls::dc_blocker_process(&mut s, in_out);
-    put_fields(w, s);
-    0
+    on_fields(w, |s: &mut [f32; 3]| {
+        dc_blocker_calls::dc_blocker_process(s, in_out);
+        0
+    })
 }
 
 fn modified_svf_buffer(t: Settings, w: &mut [f32; 8], in_: &[f32], out: &mut [f32]) -> u8 {
-    let mut s: [f32; 5] = fields(w);
-    let number = modified_svf_calls::modified_svf_process(&mut s, in_, out, t.a);
-    put_fields(w, s);
-    number
+    on_fields(w, |s: &mut [f32; 5]| modified_svf_calls::modified_svf_process(s, in_, out, t.a))
 }
 
 fn svf_buffers(
@@ -346,10 +317,7 @@ fn svf_buffers(
     out_1: &mut [f32],
     out_2: &mut [f32],
 ) -> u8 {
-    let mut s: [f32; 5] = fields(w);
-    let number = svf_form(method, t, &mut s, in_, out_1, out_2);
-    put_fields(w, s);
-    number
+    on_fields(w, |s: &mut [f32; 5]| svf_form(method, t, s, in_, out_1, out_2))
 }
 
 fn naive_svf_buffers(
@@ -360,10 +328,7 @@ fn naive_svf_buffers(
     out_1: &mut [f32],
     out_2: &mut [f32],
 ) -> u8 {
-    let mut s: [f32; 4] = fields(w);
-    let number = naive_svf_form(method, t, &mut s, in_, out_1, out_2);
-    put_fields(w, s);
-    number
+    on_fields(w, |s: &mut [f32; 4]| naive_svf_form(method, t, s, in_, out_1, out_2))
 }
 
 fn whole(
