@@ -37,5 +37,7 @@ unfolding accurate_e mul of_bits
 accurate_e_is = refl
 
 pub ruleset dirty = dirty_a_is
+
 pub ruleset fast = (fast_a_is, fast_b_is)
+
 pub ruleset accurate = (accurate_a_is, accurate_b_is, accurate_c_is, accurate_d_is, accurate_e_is)
