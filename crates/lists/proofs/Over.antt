@@ -1,15 +1,14 @@
 -- One list written over another, and the loop that does it. Assumes nothing.
-use Prim.Native.Nat.{ℕ, zero, suc, ◌+◌, ◌≤◌, ◌<◌, min}
+use Prim.Native.Nat.{ℕ, ◌+◌, ◌≤◌, ◌<◌, min}
 use mathlib.Core.Path.{◌≡◌, refl, sym, ap, ◌∙◌}
 use mathlib.Core.List.{List, [], ◌∷◌, ◌++◌, append_assoc}
 use mathlib.Core.Logic.{⊎_elim}
 use native.Mathlib.Nat.{zero-add, add_assoc}
 use native.Mathlib.Numerals.{add-one}
 use native.Mathlib.Omega.{arith}
-use borrow.Author.Rules.{rules}
 use borrow.Rule.Slice.PartMut.{put_mid}
 use lib.ListN.{length, get_or, set, take, drop, length-set, length-append, drop_of_length-le}
-use lib.Seq.{paste, paste-zero, paste-suc, length-paste, take-paste, drop-paste, take-append-add, take-append-le, take_all, take-take, take-length, drop-drop, set_split}
+use lib.Seq.{paste, paste-zero, paste-suc, length-paste, take-paste, drop-paste, take-append-add, take-append-le, take_all, take-length, drop-drop, set_split}
 use Rattle.lists.specs.Over.{room, over}
 use Rattle.filter_core.proofs.Rows.{below}
 
@@ -44,10 +43,6 @@ module _ {A : Type 0} where
   over_all xs ys h =
       let w : room 0 xs ys ≡ length xs = omega arith in
       rw (w, zero-add (length xs), take-length xs) refl
-
-  -- the front of what was written
-  pub over_front : (k : ℕ) (xs ys : List A) → k ≤ length xs → length xs ≤ length ys → take k (over 0 xs ys) ≡ take k xs
-  over_front k xs ys h l = rw (over_all xs ys l) (take-append-le k xs (drop (length xs) ys) h)
 
   -- one place
   pub over_one : (at : ℕ) (x : A) (ys : List A) → at < length ys → over at (x ∷ []) ys ≡ set ys at x
@@ -91,11 +86,7 @@ module _ {A : Type 0} where
   over_lost : (at k : ℕ) (xs ws ys : List A) → length ys ≤ at + length xs → length ys ≤ k → over k ws (over at xs ys) ≡ over at (xs ++ ws) ys
   over_lost at k xs ws ys h l = over_past k ws (over at xs ys) (rw (length_over at xs ys) l) ∙ sym (over_full at xs ws ys h)
 
-  pub over_append : (at : ℕ) (xs ws ys : List A) → over (at + length xs) ws (over at xs ys) ≡ over at (xs ++ ws) ys
-  over_append at xs ws ys =
-      ⊎_elim (λ h. over_lost at (at + length xs) xs ws ys (omega arith) (omega arith)) (over_inside at xs ws ys) (below (length ys) (at + length xs))
-
-  -- the same from the place behind those that had room
+  -- from the place behind those that had room
   pub over_behind : (at : ℕ) (xs ws ys : List A) → over (at + room at xs ys) ws (over at xs ys) ≡ over at (xs ++ ws) ys
   over_behind at xs ws ys =
       ⊎_elim
@@ -119,13 +110,6 @@ module _ {A : Type 0} where
       (λ h. let e : min n (length l) ≡ n = omega arith in rw e refl)
       (λ h. drop_of_length-le l {i = n} h ∙ sym (drop_of_length-le l {i = min n (length l)} (omega arith)))
       (below n (length l))
-
-  -- a part of the first n
-  pub part_of_first : (k m n : ℕ) (l : List A) → k + m ≤ n → take m (drop k (take n l)) ≡ take m (drop k l)
-  part_of_first zero m n l h = take-take m n l (omega arith)
-  part_of_first (suc k) m zero l h = absurd (omega arith)
-  part_of_first (suc k) m (suc n) [] h = refl
-  part_of_first (suc k) m (suc n) (x ∷ l) h = part_of_first k m n l (omega arith)
 
   -- what had room, and what is left of it
   pub take_room : (xs ys : List A) → take (room 0 xs ys) xs ≡ take (length ys) xs
@@ -161,10 +145,6 @@ module _ {A : Type 0} where
   pub copy_start : (at : ℕ) (xs ys : List A) (n : ℕ) → at ≤ length ys → n ≡ room at xs ys → Copied at xs ys n 0 ys
   copy_start at xs ys n l e = record { inside = omega arith; source = omega arith; places = omega arith; long = refl; is = paste-zero ys at xs }
 
-  -- the premise as the branch before the loop leaves it
-  pub copy_inside : (at : ℕ) (xs ys : List A) (n : ℕ) → at < length ys → n ≡ room at xs ys → Copied at xs ys n 0 ys
-  copy_inside at xs ys n l e = copy_start at xs ys n (omega arith) e
-
   pub copy_again : {at : ℕ} {xs ys : List A} {n i : ℕ} {zs : List A} (d : A) → Copied at xs ys n i zs → i < n → Copied at xs ys n (i + 1) (set zs (at + i) (get_or xs i d))
   copy_again {at} {xs} {ys} {n} {i} {zs} d c h =
       record {
@@ -178,8 +158,3 @@ module _ {A : Type 0} where
   pub copy_done : {at : ℕ} {xs ys : List A} {n i : ℕ} {zs : List A} → Copied at xs ys n i zs → n ≤ i → n ≡ room at xs ys → zs ≡ over at xs ys
   unfolding over
   copy_done {at} {xs} {ys} {n} {i} {zs} c h e = let w : i ≡ room at xs ys = omega (arith, c.inside) in rw (← w) c.is
-
-  pub copy_none : (at : ℕ) (xs ys : List A) → length ys ≤ at → ys ≡ over at xs ys
-  copy_none at xs ys h = sym (over_past at xs ys h)
-
-pub ruleset copying = (copy_inside, copy_again, copy_done, copy_none, rules)
