@@ -10,6 +10,7 @@ ghost use Rattle.lists.specs.Room.{room_refusal};
 use filter_core::Refusal;
 
 // The source into the output from the place `at` on. What has no room is left out, so a place past the end takes nothing.
+#[tactic(auto, using(crate::proofs::Over::over_past, crate::proofs::Over::over_part))]
 pub fn copy<T: Copy>(source: &[T], output: &mut [T], at: usize)
     ensures { output.new ≡ over at source.now output.old }
 {
