@@ -60,7 +60,7 @@ follows_write H out = go (eqb (write_number (library_of H.sheet) out) 0) refl
 
 module _ (H : Histories) (h : ℕ) (below : h < 12) where
   -- the picture's head
-  the_head : get_or (frame_for H).heads h empty_head ≡ head_for (H.heads h)
+  pub the_head : get_or (frame_for H).heads h empty_head ≡ head_for (H.heads h)
   the_head = get_or_table 12 (λ j. head_for (H.heads j)) h empty_head below
 
   -- put back where it stood

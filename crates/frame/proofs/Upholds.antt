@@ -1,24 +1,21 @@
 -- Demand 3, over whole lists of calls: from the picture of any sound histories, of which a fresh frame is one. Assumes nothing.
-use Prim.Native.Nat.{ℕ}
-use mathlib.Core.Path.{◌≡◌, refl, ap}
+use mathlib.Core.Path.{◌≡◌, refl, sym, ap}
 use mathlib.Core.List.{List, [], ◌∷◌}
-use native.Mathlib.Omega.{arith}
 use Rattle.library.proofs.RoundTrip.{no_sheet}
 use Rattle.lists.specs.Table.{table}
 use Rattle.heads.specs.History.{Event, snapshot_from, snapshot_of}
-use Rattle.heads.specs.Follows.{head_for, Fits, bare, held}
+use Rattle.heads.specs.Follows.{Fits, bare, held}
 use Rattle.std.specs.Prelude.{Option, None, Some}
 use Rattle.std.proofs.lemmas.List.{length-map}
+use Rattle.std.proofs.lemmas.Option.{none-some}
 use Rattle.any_filter.specs.declared.Filter.{Filter}
-use Rattle.lists.proofs.Tables.{get_or_table}
 use Rattle.heads.proofs.Follows.{head_follows}
-use Rattle.heads.specs.Head.{empty_head}
 use Rattle.frame.specs.Calls.{fresh_frame}
 use Rattle.frame.specs.Call.{Call, Reply}
 use Rattle.frame.specs.History.{Histories, no_histories, advance, advance_all, reply_to, replies_to}
 use Rattle.frame.specs.Demand.{replies_from, frame_after, Upheld, Demand3}
 use Rattle.frame.proofs.Sound.{Sound, sound_advance, sound_none}
-use Rattle.frame.proofs.Picture.{frame_for, follows}
+use Rattle.frame.proofs.Picture.{frame_for, the_head, follows}
 
 record Followed (H : Histories) (cs : List Call) : Type 0 where
   replies : replies_from (frame_for H) cs ≡ replies_to H cs
@@ -39,7 +36,7 @@ followed H (c ∷ cs) S =
 -- a good history without a filter is empty
 no_events : (l : List Event) (σ : Option Filter) → Fits l σ → σ ≡ None → l ≡ []
 no_events [] None bare e = refl
-no_events (i ∷ l) (Some f) (held q) e = let z : ◌≡◌ {A = ℕ} 0 1 = cc in absurd (omega arith)
+no_events (i ∷ l) (Some f) (held q) e = absurd (none-some f (sym e))
 no_events [] (Some f) g e = elim g [ ]
 no_events (i ∷ l) None g e = elim g [ ]
 
@@ -49,13 +46,13 @@ upheld H cs S =
     let r = followed H cs S in
     record {
       replies = r.replies;
-      heads = λ h l. rw (r.frame, get_or_table 12 (λ j. head_for ((advance_all H cs).heads j)) h empty_head l);
+      heads = λ h l. rw (r.frame, the_head (advance_all H cs) h l);
       empty =
           λ h l e. no_events ((advance_all H cs).heads h).history _ (r.sound.each h).good.fits
-          (rw (r.frame, get_or_table 12 (λ j. head_for ((advance_all H cs).heads j)) h empty_head l) at e);
-      bare = λ h l e. rw (r.frame, get_or_table 12 (λ j. head_for ((advance_all H cs).heads j)) h empty_head l, e);
-      standing = λ h l. rw (r.frame, get_or_table 12 (λ j. head_for ((advance_all H cs).heads j)) h empty_head l) (length-map ((advance_all H cs).heads h).checkpoints snapshot_of);
-      marks = λ h l. rw (r.frame, get_or_table 12 (λ j. head_for ((advance_all H cs).heads j)) h empty_head l);
+          (rw (r.frame, the_head (advance_all H cs) h l) at e);
+      bare = λ h l e. rw (r.frame, the_head (advance_all H cs) h l, e);
+      standing = λ h l. rw (r.frame, the_head (advance_all H cs) h l) (length-map ((advance_all H cs).heads h).checkpoints snapshot_of);
+      marks = λ h l. rw (r.frame, the_head (advance_all H cs) h l);
       library = rw r.frame;
     }
 

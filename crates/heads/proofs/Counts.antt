@@ -1,10 +1,10 @@
 -- The count of a history, event by event. Assumes nothing.
-use Prim.Native.Nat.{ℕ, ◌+◌, ◌≤◌, ◌<◌}
+use Prim.Native.Nat.{ℕ, ◌+◌, ◌≤◌}
 use mathlib.Core.Path.{◌≡◌, refl, ap, sym, ◌∙◌}
 use mathlib.Core.Bool.{Bool, true, false, cond}
 use mathlib.Core.List.{List, [], ◌∷◌, ◌++◌}
 use native.Mathlib.Omega.{arith}
-use borrow.Author.Tests.{lt-ltb, le-ltb, ltb-false, eqb-true, eqb-false}
+use borrow.Author.Tests.{ltb-false, eqb-true, eqb-false}
 use lib.Dec.{ltb, eqb}
 use Rattle.heads.specs.Snapshot.{greatest_count, count_refusal, run_number}
 use Rattle.heads.specs.History.{Event, load_event, run_event, rest_event, since_with, since_from, samples_in, count_of, count_with, snapshot_with, snapshot_from}
@@ -12,13 +12,6 @@ use Rattle.heads.specs.Counts.{CountsAreSums}
 use Rattle.heads.specs.declared.Snapshot.{Snapshot}
 
 -- ---- 18
-
-module _ (k n : ℕ) where
-  pub refused : greatest_count < k + n → 18 ≡ count_refusal k n
-  refused l = rw (lt-ltb _ _ l) refl
-
-  pub accepted : k + n ≤ greatest_count → 0 ≡ count_refusal k n
-  accepted l = rw (le-ltb _ _ l) refl
 
 -- a run that the count does not refuse fits
 room : (k n : ℕ) → count_refusal k n ≡ 0 → k + n ≤ greatest_count

@@ -1,13 +1,11 @@
 -- A call on the head of a history gives the head of the history that it leads to. Assumes nothing.
-use Prim.Native.Nat.{ℕ, zero, suc, ◌+◌, ◌≤◌, ◌<◌}
+use Prim.Native.Nat.{ℕ, ◌+◌, ◌<◌}
 use mathlib.Core.Path.{◌≡◌, refl, ap, sym, ◌∙◌}
 use mathlib.Core.Bool.{Bool, true, false, cond}
-use mathlib.Core.List.{List, [], ◌∷◌, ◌++◌}
-use native.Mathlib.Omega.{arith}
-use borrow.Author.Tests.{ltb-true, ltb-false, leb-false, le-ltb}
-use lib.ListN.{length, get_or, take, set, length-append, length-take, get_or-eq_default}
-use lib.Seq.{length-take-le, get_or-take}
-use lib.Dec.{eqb, leb, ltb, eqb-suc-suc, eqb-zero-suc, eqb-suc-zero}
+use mathlib.Core.List.{List, [], ◌∷◌, map}
+use borrow.Author.Tests.{leb-false}
+use lib.ListN.{length, get_or, take}
+use lib.Dec.{eqb, leb, ltb}
 use Rattle.std.proofs.Math.ListN.{get_or-map}
 use Rattle.std.proofs.lemmas.List.{take-map, length-map, map-append}
 use Rattle.filter_core.specs.Buffer.{within}
@@ -18,8 +16,8 @@ use Rattle.any_filter.specs.declared.FilterType.{FilterType}
 use Rattle.any_filter.specs.declared.Filter.{Filter}
 use Rattle.runs.specs.Form.{run_refusal, run_two_refusal}
 use Rattle.heads.specs.Act.{Act, run, run_two, rest, mark, back, drop, count, HeadReply, answered, marked}
-use Rattle.heads.specs.Snapshot.{empty_snapshot, loaded_with, Sewn, left, on_filter, run_number, run_by, run_sewn, run_two_by, run_two_sewn, rest_by, rest_sewn}
-use Rattle.heads.specs.Head.{head_with, empty_head, holding, Turned, refuse_turn, accept_turn, put, last_mark, next_mark, marked_head, mark_by, restored, back_head, drop_head, at_mark, turn}
+use Rattle.heads.specs.Snapshot.{loaded_with, Sewn, left, on_filter, run_number, run_by, run_sewn, run_two_by, run_two_sewn, rest_by, rest_sewn}
+use Rattle.heads.specs.Head.{head_with, empty_head, holding, Turned, refuse_turn, accept_turn, put, last_mark, next_mark, marked_head, mark_by, back_head, drop_head, at_mark, turn}
 use Rattle.heads.specs.History.{Event, load_event, HeadHistory, no_history, last_type, count_of, unless_bare, no_mark, act_number, adding, grown_by, advance_by, snapshot_from, snapshot_of, accepted_act, act_reply}
 use Rattle.heads.specs.Follows.{head_for, Fits, bare, held, SoundHead, HeadFollows}
 use Rattle.heads.proofs.Counts.{count_is}
@@ -72,7 +70,9 @@ there x a m {y} {z} same = rw length-map (go (leb (length x.checkpoints) m) refl
 module _ (x : HeadHistory) (S : SoundHead x) where
   back_pictured : (m : ℕ) → m < length x.checkpoints → back_head (head_for x) m ≡ head_for (grown_by x (back m))
   unfolding snapshot_from
-  back_pictured m h = rw (get_or-map snapshot_of x.checkpoints m [], take-map snapshot_of (m + 1) x.checkpoints) refl
+  back_pictured m h =
+      ap (λ s. head_with s (take (m + 1) (map snapshot_of x.checkpoints))) (get_or-map snapshot_of x.checkpoints m [])
+      ∙ ap (head_with (snapshot_of (get_or x.checkpoints m []))) (take-map snapshot_of (m + 1) x.checkpoints)
 
   drop_pictured : (m : ℕ) → drop_head (head_for x) m ≡ head_for (grown_by x (drop m))
   drop_pictured m = rw (take-map snapshot_of m x.checkpoints) refl

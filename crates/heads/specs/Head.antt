@@ -1,5 +1,5 @@
 -- What each call does to a head.
-use Rattle.std.specs.Prelude.{ℕ, ◌+◌, cond, List, [], ◌∷◌, ◌++◌, leb, ltb, length, get_or, take, Option, None, Some, Result, unwrap_or}
+use Rattle.std.specs.Prelude.{ℕ, ◌+◌, cond, List, [], ◌∷◌, ◌++◌, leb, ltb, length, get_or, take, Option, None, Some, Result}
 use Rattle.std.specs.Result.{result_unwrap_or}
 use Rattle.filter_core.specs.Refusal.{number_in}
 use Rattle.filter_core.specs.declared.refusal.Refusal.{Refusal}

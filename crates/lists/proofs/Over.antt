@@ -1,5 +1,5 @@
 -- One list written over another, and the loop that does it. Assumes nothing.
-use Prim.Native.Nat.{ℕ, zero, suc, ◌+◌, ◌≤◌, ◌<◌, min}
+use Prim.Native.Nat.{ℕ, ◌+◌, ◌≤◌, ◌<◌, min}
 use mathlib.Core.Path.{◌≡◌, refl, sym, ap, ◌∙◌}
 use mathlib.Core.List.{List, [], ◌∷◌, ◌++◌, append_assoc}
 use mathlib.Core.Logic.{⊎_elim}
@@ -8,7 +8,7 @@ use native.Mathlib.Numerals.{add-one}
 use native.Mathlib.Omega.{arith}
 use borrow.Rule.Slice.PartMut.{put_mid}
 use lib.ListN.{length, get_or, set, take, drop, length-set, length-append, drop_of_length-le}
-use lib.Seq.{paste, paste-zero, paste-suc, length-paste, take-paste, drop-paste, take-append-add, take-append-le, take_all, take-take, take-length, drop-drop, set_split}
+use lib.Seq.{paste, paste-zero, paste-suc, length-paste, take-paste, drop-paste, take-append-add, take-append-le, take_all, take-length, drop-drop, set_split}
 use Rattle.lists.specs.Over.{room, over}
 use Rattle.filter_core.proofs.Rows.{below}
 
@@ -43,10 +43,6 @@ module _ {A : Type 0} where
   over_all xs ys h =
       let w : room 0 xs ys ≡ length xs = omega arith in
       rw (w, zero-add (length xs), take-length xs) refl
-
-  -- the front of what was written
-  pub over_front : (k : ℕ) (xs ys : List A) → k ≤ length xs → length xs ≤ length ys → take k (over 0 xs ys) ≡ take k xs
-  over_front k xs ys h l = rw (over_all xs ys l) (take-append-le k xs (drop (length xs) ys) h)
 
   -- one place
   pub over_one : (at : ℕ) (x : A) (ys : List A) → at < length ys → over at (x ∷ []) ys ≡ set ys at x
@@ -90,11 +86,7 @@ module _ {A : Type 0} where
   over_lost : (at k : ℕ) (xs ws ys : List A) → length ys ≤ at + length xs → length ys ≤ k → over k ws (over at xs ys) ≡ over at (xs ++ ws) ys
   over_lost at k xs ws ys h l = over_past k ws (over at xs ys) (rw (length_over at xs ys) l) ∙ sym (over_full at xs ws ys h)
 
-  pub over_append : (at : ℕ) (xs ws ys : List A) → over (at + length xs) ws (over at xs ys) ≡ over at (xs ++ ws) ys
-  over_append at xs ws ys =
-      ⊎_elim (λ h. over_lost at (at + length xs) xs ws ys (omega arith) (omega arith)) (over_inside at xs ws ys) (below (length ys) (at + length xs))
-
-  -- the same from the place behind those that had room
+  -- from the place behind those that had room
   pub over_behind : (at : ℕ) (xs ws ys : List A) → over (at + room at xs ys) ws (over at xs ys) ≡ over at (xs ++ ws) ys
   over_behind at xs ws ys =
       ⊎_elim
@@ -118,13 +110,6 @@ module _ {A : Type 0} where
       (λ h. let e : min n (length l) ≡ n = omega arith in rw e refl)
       (λ h. drop_of_length-le l {i = n} h ∙ sym (drop_of_length-le l {i = min n (length l)} (omega arith)))
       (below n (length l))
-
-  -- a part of the first n
-  pub part_of_first : (k m n : ℕ) (l : List A) → k + m ≤ n → take m (drop k (take n l)) ≡ take m (drop k l)
-  part_of_first zero m n l h = take-take m n l (omega arith)
-  part_of_first (suc k) m zero l h = absurd (omega arith)
-  part_of_first (suc k) m (suc n) [] h = refl
-  part_of_first (suc k) m (suc n) (x ∷ l) h = part_of_first k m n l (omega arith)
 
   -- what had room, and what is left of it
   pub take_room : (xs ys : List A) → take (room 0 xs ys) xs ≡ take (length ys) xs

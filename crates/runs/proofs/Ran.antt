@@ -1,6 +1,6 @@
 -- What a run leaves of a filter of any type, from what it leaves of its own type's. Assumes nothing.
 use Prim.Native.Nat.{ℕ}
-use mathlib.Core.Path.{◌≡◌, refl, ◌∙◌}
+use mathlib.Core.Path.{◌≡◌, refl}
 use mathlib.Core.Bool.{Bool, true, false, cond}
 use mathlib.Core.List.{List}
 use lib.Dec.{eqb}
@@ -10,7 +10,7 @@ use Rattle.any_filter.specs.Cases.{type_of}
 use Rattle.any_filter.specs.declared.Filter.{Filter}
 use Rattle.any_filter.specs.declared.Filter.TheVariants.{DcBlocker, OnePole, Svf, NaiveSvf, ModifiedSvf, CrossoverSvf}
 use Rattle.runs.specs.Form.{run_refusal, run_two_refusal}
-use Rattle.runs.specs.Run.{Machine, machine_of, RanBy, Ran, RanTwoBy, RanTwo, through, first_output, second_output}
+use Rattle.runs.specs.Run.{machine_of, RanBy, Ran, RanTwoBy, RanTwo, through, first_output, second_output}
 use Rattle.runs.specs.declared.form.RunForm.{RunForm}
 
 carried : {S : Type 0} (of : S → Filter) (n : ℕ) (a b : S) {t : S} → t ≡ unless_refused n a b → of t ≡ unless_refused n (of a) (of b)

@@ -1,10 +1,11 @@
 -- 9 and 10 by their rows. Assumes nothing.
-use Prim.Native.Nat.{ℕ, zero, suc}
+use Prim.Native.Nat.{zero, suc}
 use mathlib.Core.Path.{◌≡◌, refl, sym, ◌∙◌}
 use mathlib.Core.Bool.{Bool, true, false}
 use mathlib.Core.List.{[], ◌∷◌}
 use native.Mathlib.Omega.{arith}
 use lib.Dec.{eqb-suc-zero}
+use Rattle.std.proofs.lemmas.Bool.{false≢true}
 use Rattle.filter_core.specs.Rows.{First, none, here, later}
 use Rattle.filter_core.proofs.Rows.{exactly}
 use Rattle.any_filter.specs.declared.FilterType.{FilterType}
@@ -43,10 +44,7 @@ module _ {has : FilterType → RunForm → Type 0} {k : FilterType} where
 
   by_form : {form : RunForm} (b : Bool) → (b ≡ true → has k form) → (has k form → b ≡ true) → First (RunCase has k form) (9 ∷ 10 ∷ []) (refusal_if b form)
   by_form {form} true p q = later (there (p refl)) (by_step form)
-  by_form false p q = here (no_form (λ h. differ (q h)))
-    where
-      differ : ◌≡◌ {A = Bool} false true → ⊥
-      differ e = let z : ◌≡◌ {A = ℕ} 0 1 = cc in omega arith
+  by_form false p q = here (no_form (λ h. false≢true (q h)))
 
 -- ---- which filter has which form
 
@@ -80,9 +78,9 @@ has k (Gain mode gain) e = rw (svf_is k e) svf_gain
 has k (Stride mode step) e = rw (svf_is k e) svf_stride
 has k (Multimode value) e = rw (svf_is k e) svf_in_multimode
 has k (Decimate mode step) e = rw (naive_is k e) naive_decimate
-has k (Gains mode a b) e = let z : ◌≡◌ {A = ℕ} 0 1 = cc in absurd (omega arith)
-has k (Pair a b) e = let z : ◌≡◌ {A = ℕ} 0 1 = cc in absurd (omega arith)
-has k Split e = let z : ◌≡◌ {A = ℕ} 0 1 = cc in absurd (omega arith)
+has k (Gains mode a b) e = absurd (false≢true e)
+has k (Pair a b) e = absurd (false≢true e)
+has k Split e = absurd (false≢true e)
 
 tested : {k : FilterType} {form : RunForm} → Has k form → has_form k form ≡ true
 tested dc_plain = refl
@@ -97,11 +95,11 @@ tested modified_plain = refl
 tested crossover_plain = refl
 
 has_two : (k : FilterType) (form : RunForm) → has_form_two k form ≡ true → HasTwo k form
-has_two k (Plain mode) e = let z : ◌≡◌ {A = ℕ} 0 1 = cc in absurd (omega arith)
-has_two k (Gain mode gain) e = let z : ◌≡◌ {A = ℕ} 0 1 = cc in absurd (omega arith)
-has_two k (Stride mode step) e = let z : ◌≡◌ {A = ℕ} 0 1 = cc in absurd (omega arith)
-has_two k (Multimode value) e = let z : ◌≡◌ {A = ℕ} 0 1 = cc in absurd (omega arith)
-has_two k (Decimate mode step) e = let z : ◌≡◌ {A = ℕ} 0 1 = cc in absurd (omega arith)
+has_two k (Plain mode) e = absurd (false≢true e)
+has_two k (Gain mode gain) e = absurd (false≢true e)
+has_two k (Stride mode step) e = absurd (false≢true e)
+has_two k (Multimode value) e = absurd (false≢true e)
+has_two k (Decimate mode step) e = absurd (false≢true e)
 has_two k (Gains mode a b) e = rw (svf_is k e) svf_gains
 has_two k (Pair a b) e = rw (svf_is k e) svf_pair
 has_two k Split e = rw (naive_is k e) naive_split
