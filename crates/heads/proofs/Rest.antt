@@ -66,12 +66,12 @@ after_event s l rest_event h = rest_in s ∙ h
 filters : (s t : Snapshot) (l : List Event) → s.filter ≡ t.filter → (snapshot_from s l).filter ≡ (snapshot_from t l).filter
 unfolding snapshot_from
 filters s t [] e = e
-filters s t (i ∷ l) e =  filters (snapshot_with s i) (snapshot_with t i) l (ap (λ (x : Option Filter). filter_with x i) e)
+filters s t (i ∷ l) e = filters (snapshot_with s i) (snapshot_with t i) l (ap (λ (x : Option Filter). filter_with x i) e)
 
 passed : (s : Snapshot) (l before after : List Event) → rested_in s.filter ≡ (snapshot_of l).filter
     → (snapshot_from s (before ++ rest_event ∷ after)).filter ≡ (snapshot_of (last_load_from l before ++ after)).filter
 unfolding snapshot_from last_load_from
-passed s l [] after h =  filters (snapshot_with s rest_event) (snapshot_of l) after h ∙ sym (ap (λ (x : Snapshot). x.filter) (snapshot_append _ l after))
+passed s l [] after h = filters (snapshot_with s rest_event) (snapshot_of l) after h ∙ sym (ap (λ (x : Snapshot). x.filter) (snapshot_append _ l after))
 passed s l (i ∷ before) after h = passed (snapshot_with s i) (load_with l i) before after (after_event s.filter l i h)
 
 pub rest_is_load : RestIsLoad
