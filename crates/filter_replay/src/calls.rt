@@ -11,7 +11,8 @@ use std::array;
 
 // What a call takes besides its filter and its buffers.
 #[derive(Clone, Copy)]
-pub(crate) struct Settings {
+pub(crate) struct Call {
+    pub method: u32,
     pub a: u32,
     pub b: u32,
     pub step: usize,
@@ -31,109 +32,124 @@ pub(crate) struct Lengths {
 // What a number that names no method answers.
 const NO_METHOD: u8 = 255;
 
-// Makes a call on a filter that has N fields, which stand at the front of a record's state.
-fn on_fields<const N: usize, F: FnOnce(&mut [f32; N]) -> u8>(w: &mut [f32; 8], call: F) -> u8
-    requires small { N ≤ 8 }
-    requires callable { F.IsAlwaysCallable call }
+// The fields of a filter that has N of them, at the front of a record's state.
+fn fields<const N: usize>(w: &[f32; 8]) -> [f32; N]
+    requires { N ≤ 8 }
 {
-    let mut s: [f32; N] = array::from_fn(|i| w[i]);
-    let number = call(&mut s);
-    w[..N].copy_from_slice(&s);
-    number
+    array::from_fn(|i| w[i])
 }
 
-fn dc_blocker(method: u32, t: Settings, w: &mut [f32; 8]) -> u8 {
-    on_fields(w, |s: &mut [f32; 3]| match method {
+fn put_fields<const N: usize>(w: &mut [f32; 8], s: [f32; N])
+    requires { N ≤ 8 }
+{
+    w[..N].copy_from_slice(&s);
+}
+
+fn dc_blocker(call: Call, w: &mut [f32; 8]) -> u8 {
+    let mut s: [f32; 3] = fields(w);
+    let number = match call.method {
         10 => {
-            dc_blocker_calls::dc_blocker_new(s);
+            dc_blocker_calls::dc_blocker_new(&mut s);
             0
         }
         11 => {
-            dc_blocker_calls::dc_blocker_init(s, t.p);
+            dc_blocker_calls::dc_blocker_init(&mut s, call.p);
             0
         }
         _ => NO_METHOD,
-    })
+    };
+    put_fields(w, s);
+    number
 }
 
-fn one_pole_settings(method: u32, t: Settings, w: &mut [f32; 8]) -> u8 {
-    on_fields(w, |s: &mut [f32; 3]| match method {
+fn one_pole_settings(call: Call, w: &mut [f32; 8]) -> u8 {
+    let mut s: [f32; 3] = fields(w);
+    let number = match call.method {
         20 => {
-            one_pole_calls::one_pole_new(s);
+            one_pole_calls::one_pole_new(&mut s);
             0
         }
         21 => {
-            one_pole_calls::one_pole_init(s);
+            one_pole_calls::one_pole_init(&mut s);
             0
         }
         22 => {
-            one_pole_calls::one_pole_reset(s);
+            one_pole_calls::one_pole_reset(&mut s);
             0
         }
-        24 => one_pole_calls::one_pole_set_f(s, t.p, t.a),
+        24 => one_pole_calls::one_pole_set_f(&mut s, call.p, call.a),
         _ => NO_METHOD,
-    })
+    };
+    put_fields(w, s);
+    number
 }
 
-fn one_pole_sample(t: Settings, w: &mut [f32; 8], y: &mut f32) -> u8 {
-    on_fields(w, |s: &mut [f32; 3]| one_pole_calls::one_pole_process(s, t.p, t.a, y))
+fn one_pole_sample(call: Call, w: &mut [f32; 8], y: &mut f32) -> u8 {
+    let mut s: [f32; 3] = fields(w);
+    let number = one_pole_calls::one_pole_process(&mut s, call.p, call.a, y);
+    put_fields(w, s);
+    number
 }
 
-fn one_pole(method: u32, t: Settings, w: &mut [f32; 8], y: &mut f32) -> u8 {
-    match method {
-        23 => one_pole_calls::one_pole_tan(t.p, t.a, y),
-        25 => one_pole_sample(t, w, y),
-        _ => one_pole_settings(method, t, w),
+fn one_pole(call: Call, w: &mut [f32; 8], y: &mut f32) -> u8 {
+    match call.method {
+        23 => one_pole_calls::one_pole_tan(call.p, call.a, y),
+        25 => one_pole_sample(call, w, y),
+        _ => one_pole_settings(call, w),
     }
 }
 
-fn svf_states(method: u32, w: &mut [f32; 8], input: &[f32; 8]) -> u8 {
-    let [g, r, h, state_1, state_2, _, _, _] = *input;
-    let other = [g, r, h, state_1, state_2];
-    on_fields(w, |s: &mut [f32; 5]| match method {
+fn svf_states(call: Call, w: &mut [f32; 8], input: &[f32; 8]) -> u8 {
+    let mut s: [f32; 5] = fields(w);
+    let other: [f32; 5] = fields(input);
+    let number = match call.method {
         30 => {
-            svf_calls::svf_new(s);
+            svf_calls::svf_new(&mut s);
             0
         }
         31 => {
-            svf_calls::svf_init(s);
+            svf_calls::svf_init(&mut s);
             0
         }
         32 => {
-            svf_calls::svf_reset(s);
+            svf_calls::svf_reset(&mut s);
             0
         }
         33 => {
-            svf_calls::svf_set(s, &other);
+            svf_calls::svf_set(&mut s, &other);
             0
         }
         _ => NO_METHOD,
-    })
+    };
+    put_fields(w, s);
+    number
 }
 
-fn svf_settings(method: u32, t: Settings, w: &mut [f32; 8]) -> u8 {
-    on_fields(w, |s: &mut [f32; 5]| match method {
+fn svf_settings(call: Call, w: &mut [f32; 8]) -> u8 {
+    let mut s: [f32; 5] = fields(w);
+    let number = match call.method {
         34 => {
-            svf_calls::svf_set_g_r_h(s, t.p, t.q, t.r);
+            svf_calls::svf_set_g_r_h(&mut s, call.p, call.q, call.r);
             0
         }
         35 => {
-            svf_calls::svf_set_g_r(s, t.p, t.q);
+            svf_calls::svf_set_g_r(&mut s, call.p, call.q);
             0
         }
         36 => {
-            svf_calls::svf_set_g_q(s, t.p, t.q);
+            svf_calls::svf_set_g_q(&mut s, call.p, call.q);
             0
         }
-        37 => svf_calls::svf_set_f_q(s, t.p, t.q, t.a),
+        37 => svf_calls::svf_set_f_q(&mut s, call.p, call.q, call.a),
         _ => NO_METHOD,
-    })
+    };
+    put_fields(w, s);
+    number
 }
 
-fn svf_read(method: u32, w: &[f32; 8], y: &mut f32) -> u8 {
-    let [g, r, h, state_1, state_2, _, _, _] = *w;
-    let s = [g, r, h, state_1, state_2];
-    *y = match method {
+fn svf_read(call: Call, w: &[f32; 8], y: &mut f32) -> u8 {
+    let s: [f32; 5] = fields(w);
+    *y = match call.method {
         38 => svf_calls::svf_g(&s),
         39 => svf_calls::svf_r(&s),
         _ => svf_calls::svf_h(&s),
@@ -141,218 +157,212 @@ fn svf_read(method: u32, w: &[f32; 8], y: &mut f32) -> u8 {
     0
 }
 
-fn svf_sample(method: u32, t: Settings, w: &mut [f32; 8], y: &mut f32, z: &mut f32) -> u8 {
-    on_fields(w, |s: &mut [f32; 5]| match method {
-        41 => svf_calls::svf_process(s, t.p, t.a, y),
-        42 => svf_calls::svf_process_dual(s, t.p, y, z, t.a, t.b),
+fn svf_sample(call: Call, w: &mut [f32; 8], y: &mut f32, z: &mut f32) -> u8 {
+    let mut s: [f32; 5] = fields(w);
+    let number = match call.method {
+        41 => svf_calls::svf_process(&mut s, call.p, call.a, y),
+        42 => svf_calls::svf_process_dual(&mut s, call.p, y, z, call.a, call.b),
         _ => NO_METHOD,
-    })
+    };
+    put_fields(w, s);
+    number
 }
 
-fn naive_svf_settings(method: u32, t: Settings, w: &mut [f32; 8]) -> u8 {
-    on_fields(w, |s: &mut [f32; 4]| match method {
+fn naive_svf_settings(call: Call, w: &mut [f32; 8]) -> u8 {
+    let mut s: [f32; 4] = fields(w);
+    let number = match call.method {
         50 => {
-            naive_svf_calls::naive_svf_new(s);
+            naive_svf_calls::naive_svf_new(&mut s);
             0
         }
         51 => {
-            naive_svf_calls::naive_svf_init(s);
+            naive_svf_calls::naive_svf_init(&mut s);
             0
         }
         52 => {
-            naive_svf_calls::naive_svf_reset(s);
+            naive_svf_calls::naive_svf_reset(&mut s);
             0
         }
-        53 => naive_svf_calls::naive_svf_set_f_q(s, t.p, t.q, t.a),
+        53 => naive_svf_calls::naive_svf_set_f_q(&mut s, call.p, call.q, call.a),
         _ => NO_METHOD,
-    })
+    };
+    put_fields(w, s);
+    number
 }
 
-fn naive_svf_read(method: u32, w: &[f32; 8], y: &mut f32) -> u8 {
-    let [f, damp, lp, bp, _, _, _, _] = *w;
-    let s = [f, damp, lp, bp];
-    *y = match method {
+fn naive_svf_read(call: Call, w: &[f32; 8], y: &mut f32) -> u8 {
+    let s: [f32; 4] = fields(w);
+    *y = match call.method {
         54 => naive_svf_calls::naive_svf_lp(&s),
         _ => naive_svf_calls::naive_svf_bp(&s),
     };
     0
 }
 
-fn naive_svf_sample(t: Settings, w: &mut [f32; 8], y: &mut f32) -> u8 {
-    on_fields(w, |s: &mut [f32; 4]| naive_svf_calls::naive_svf_process(s, t.p, t.a, y))
+fn naive_svf_sample(call: Call, w: &mut [f32; 8], y: &mut f32) -> u8 {
+    let mut s: [f32; 4] = fields(w);
+    let number = naive_svf_calls::naive_svf_process(&mut s, call.p, call.a, y);
+    put_fields(w, s);
+    number
 }
 
-fn naive_svf(method: u32, t: Settings, w: &mut [f32; 8], y: &mut f32) -> u8 {
-    match method {
-        54 | 55 => naive_svf_read(method, w, y),
-        56 => naive_svf_sample(t, w, y),
-        _ => naive_svf_settings(method, t, w),
+fn naive_svf(call: Call, w: &mut [f32; 8], y: &mut f32) -> u8 {
+    match call.method {
+        54 | 55 => naive_svf_read(call, w, y),
+        56 => naive_svf_sample(call, w, y),
+        _ => naive_svf_settings(call, w),
     }
 }
 
-fn modified_svf(method: u32, t: Settings, w: &mut [f32; 8]) -> u8 {
-    on_fields(w, |s: &mut [f32; 5]| match method {
+fn modified_svf(call: Call, w: &mut [f32; 8]) -> u8 {
+    let mut s: [f32; 5] = fields(w);
+    let number = match call.method {
         60 => {
-            modified_svf_calls::modified_svf_new(s);
+            modified_svf_calls::modified_svf_new(&mut s);
             0
         }
         61 => {
-            modified_svf_calls::modified_svf_init(s);
+            modified_svf_calls::modified_svf_init(&mut s);
             0
         }
         62 => {
-            modified_svf_calls::modified_svf_reset(s);
+            modified_svf_calls::modified_svf_reset(&mut s);
             0
         }
         63 => {
-            modified_svf_calls::modified_svf_set_f_fq(s, t.p, t.q);
+            modified_svf_calls::modified_svf_set_f_fq(&mut s, call.p, call.q);
             0
         }
         _ => NO_METHOD,
-    })
+    };
+    put_fields(w, s);
+    number
 }
 
-fn crossover_svf(method: u32, t: Settings, w: &mut [f32; 8]) -> u8 {
-    match method {
+fn crossover_svf(call: Call, w: &mut [f32; 8]) -> u8 {
+    match call.method {
         70 => crossover_svf_calls::crossover_svf_new(w),
         71 => crossover_svf_calls::crossover_svf_init(w),
         72 => crossover_svf_calls::crossover_svf_reset(w),
-        73 => crossover_svf_calls::crossover_svf_set_f_fq(w, t.p, t.q),
+        73 => crossover_svf_calls::crossover_svf_set_f_fq(w, call.p, call.q),
         _ => return NO_METHOD,
     }
     0
 }
 
-fn svf(
-    method: u32,
-    t: Settings,
-    w: &mut [f32; 8],
-    input: &[f32; 8],
-    y: &mut f32,
-    z: &mut f32,
-) -> u8 {
-    match method {
-        30..=33 => svf_states(method, w, input),
-        34..=37 => svf_settings(method, t, w),
-        38..=40 => svf_read(method, w, y),
-        _ => svf_sample(method, t, w, y, z),
+fn svf(call: Call, w: &mut [f32; 8], input: &[f32; 8], y: &mut f32, z: &mut f32) -> u8 {
+    match call.method {
+        30..=33 => svf_states(call, w, input),
+        34..=37 => svf_settings(call, w),
+        38..=40 => svf_read(call, w, y),
+        _ => svf_sample(call, w, y, z),
     }
 }
 
 // A call for one sample, or for none.
 pub(crate) fn sample(
-    method: u32,
-    t: Settings,
+    call: Call,
     w: &mut [f32; 8],
     input: &[f32; 8],
     y: &mut f32,
     z: &mut f32,
 ) -> u8 {
-    match method {
-        10..=19 => dc_blocker(method, t, w),
-        20..=29 => one_pole(method, t, w, y),
-        30..=49 => svf(method, t, w, input, y, z),
-        50..=59 => naive_svf(method, t, w, y),
-        60..=69 => modified_svf(method, t, w),
-        _ => crossover_svf(method, t, w),
+    match call.method {
+        10..=19 => dc_blocker(call, w),
+        20..=29 => one_pole(call, w, y),
+        30..=49 => svf(call, w, input, y, z),
+        50..=59 => naive_svf(call, w, y),
+        60..=69 => modified_svf(call, w),
+        _ => crossover_svf(call, w),
     }
 }
 
-fn svf_form(
-    method: u32,
-    t: Settings,
-    s: &mut [f32; 5],
-    in_: &[f32],
-    out_1: &mut [f32],
-    out_2: &mut [f32],
-) -> u8 {
-    match method {
-        130 => svf_calls::svf_process_buffer(s, in_, out_1, t.a),
-        131 => svf_calls::svf_process_add_buffer(s, in_, out_1, t.p, t.a),
-        132 => svf_calls::svf_process_stride_buffer(s, in_, out_1, t.step, t.a),
+fn svf_form(call: Call, s: &mut [f32; 5], in_: &[f32], out_1: &mut [f32], out_2: &mut [f32]) -> u8 {
+    match call.method {
+        130 => svf_calls::svf_process_buffer(s, in_, out_1, call.a),
+        131 => svf_calls::svf_process_add_buffer(s, in_, out_1, call.p, call.a),
+        132 => svf_calls::svf_process_stride_buffer(s, in_, out_1, call.step, call.a),
         133 => {
-            svf_calls::svf_process_multimode_buffer(s, in_, out_1, t.p);
+            svf_calls::svf_process_multimode_buffer(s, in_, out_1, call.p);
             0
         }
-        134 => svf_calls::svf_process_add_dual_buffer(s, in_, out_1, out_2, t.p, t.q, t.a),
+        134 => svf_calls::svf_process_add_dual_buffer(s, in_, out_1, out_2, call.p, call.q, call.a),
         _ => NO_METHOD,
     }
 }
 
 fn naive_svf_form(
-    method: u32,
-    t: Settings,
+    call: Call,
     s: &mut [f32; 4],
     in_: &[f32],
     out_1: &mut [f32],
     out_2: &mut [f32],
 ) -> u8 {
-    match method {
-        150 => naive_svf_calls::naive_svf_process_buffer(s, in_, out_1, t.a),
+    match call.method {
+        150 => naive_svf_calls::naive_svf_process_buffer(s, in_, out_1, call.a),
         151 => {
             naive_svf_calls::naive_svf_split(s, in_, out_1, out_2);
             0
         }
-        152 => naive_svf_calls::naive_svf_process_decimate(s, in_, out_1, t.step, t.a),
+        152 => naive_svf_calls::naive_svf_process_decimate(s, in_, out_1, call.step, call.a),
         _ => NO_METHOD,
     }
 }
 
 fn dc_blocker_buffer(w: &mut [f32; 8], in_out: &mut [f32]) -> u8 {
-    on_fields(w, |s: &mut [f32; 3]| {
-        dc_blocker_calls::dc_blocker_process(s, in_out);
-        0
-    })
+    let mut s: [f32; 3] = fields(w);
+    dc_blocker_calls::dc_blocker_process(&mut s, in_out);
+    put_fields(w, s);
+    0
 }
 
-fn modified_svf_buffer(t: Settings, w: &mut [f32; 8], in_: &[f32], out: &mut [f32]) -> u8 {
-    on_fields(w, |s: &mut [f32; 5]| modified_svf_calls::modified_svf_process(s, in_, out, t.a))
+fn modified_svf_buffer(call: Call, w: &mut [f32; 8], in_: &[f32], out: &mut [f32]) -> u8 {
+    let mut s: [f32; 5] = fields(w);
+    let number = modified_svf_calls::modified_svf_process(&mut s, in_, out, call.a);
+    put_fields(w, s);
+    number
 }
 
 fn svf_buffers(
-    method: u32,
-    t: Settings,
+    call: Call,
     w: &mut [f32; 8],
     in_: &[f32],
     out_1: &mut [f32],
     out_2: &mut [f32],
 ) -> u8 {
-    on_fields(w, |s: &mut [f32; 5]| svf_form(method, t, s, in_, out_1, out_2))
+    let mut s: [f32; 5] = fields(w);
+    let number = svf_form(call, &mut s, in_, out_1, out_2);
+    put_fields(w, s);
+    number
 }
 
 fn naive_svf_buffers(
-    method: u32,
-    t: Settings,
+    call: Call,
     w: &mut [f32; 8],
     in_: &[f32],
     out_1: &mut [f32],
     out_2: &mut [f32],
 ) -> u8 {
-    on_fields(w, |s: &mut [f32; 4]| naive_svf_form(method, t, s, in_, out_1, out_2))
+    let mut s: [f32; 4] = fields(w);
+    let number = naive_svf_form(call, &mut s, in_, out_1, out_2);
+    put_fields(w, s);
+    number
 }
 
-fn whole(
-    method: u32,
-    t: Settings,
-    w: &mut [f32; 8],
-    in_: &[f32],
-    out_1: &mut [f32],
-    out_2: &mut [f32],
-) -> u8 {
-    match method {
+fn whole(call: Call, w: &mut [f32; 8], in_: &[f32], out_1: &mut [f32], out_2: &mut [f32]) -> u8 {
+    match call.method {
         110 => dc_blocker_buffer(w, out_1),
-        130..=149 => svf_buffers(method, t, w, in_, out_1, out_2),
-        150..=159 => naive_svf_buffers(method, t, w, in_, out_1, out_2),
-        160 => modified_svf_buffer(t, w, in_, out_1),
-        170 => crossover_svf_calls::crossover_svf_process(w, in_, out_1, t.a),
+        130..=149 => svf_buffers(call, w, in_, out_1, out_2),
+        150..=159 => naive_svf_buffers(call, w, in_, out_1, out_2),
+        160 => modified_svf_buffer(call, w, in_, out_1),
+        170 => crossover_svf_calls::crossover_svf_process(w, in_, out_1, call.a),
         _ => NO_METHOD,
     }
 }
 
 // A buffer form, over parts of its buffers.
 pub(crate) fn buffers(
-    method: u32,
-    t: Settings,
+    call: Call,
     n: Lengths,
     w: &mut [f32; 8],
     in_: &[f32],
@@ -371,5 +381,5 @@ pub(crate) fn buffers(
     if out_2.len() < k {
         return NO_METHOD;
     }
-    whole(method, t, w, &in_[..i], &mut out_1[..j], &mut out_2[..k])
+    whole(call, w, &in_[..i], &mut out_1[..j], &mut out_2[..k])
 }

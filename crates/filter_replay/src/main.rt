@@ -8,14 +8,15 @@
 
 #![tactic(auto)]
 
-use calls::{Lengths, Settings};
+use calls::{Call, Lengths};
 use std::io::{Read, Result};
 
 mod calls;
 mod record;
 
-fn settings(w: &[u32; 68]) -> Settings {
-    Settings {
+fn call_of(w: &[u32; 68]) -> Call {
+    Call {
+        method: w[0],
         a: w[1],
         b: w[2],
         step: (u64::from(w[3]) | (u64::from(w[4]) << 32)) as usize,
@@ -41,13 +42,13 @@ fn answer(
     out_1: &mut [f32; 8],
     out_2: &mut [f32; 8],
 ) -> u8 {
-    let method = w[0];
-    if 100 <= method {
-        return calls::buffers(method, settings(w), lengths(w), state, input, out_1, out_2);
+    let call = call_of(w);
+    if 100 <= call.method {
+        return calls::buffers(call, lengths(w), state, input, out_1, out_2);
     }
     let mut y = out_1[0];
     let mut z = out_2[0];
-    let number = calls::sample(method, settings(w), state, input, &mut y, &mut z);
+    let number = calls::sample(call, state, input, &mut y, &mut z);
     out_1[0] = y;
     out_2[0] = z;
     number

@@ -112,9 +112,9 @@ impl Head {
     pub fn mark(&mut self) -> Result<usize, Refusal>
         ensures { turned_with_mark result self.new ≡ turn self.old mark }
     {
-        if self.now.filter.is_none() {
+        let Some(_) = self.now.filter else {
             return Err(Refusal::Bare);
-        }
+        };
         let m = self.marks.len();
         match self.marks.try_push(self.now) {
             Ok(()) => Ok(m),

@@ -1,8 +1,8 @@
 -- The laws of `table`, the list of a function's first values. Assumes nothing.
-use Prim.Native.Nat.{ℕ, zero, suc, ◌+◌, ◌≤◌, ◌<◌, min}
+use Prim.Native.Nat.{ℕ, zero, suc, ◌+◌, ◌<◌, min}
 use mathlib.Core.Path.{◌≡◌, refl, ap}
 use mathlib.Core.Bool.{cond}
-use mathlib.Core.List.{List, [], ◌∷◌, ◌++◌, map}
+use mathlib.Core.List.{List, [], ◌∷◌, ◌++◌}
 use native.Mathlib.Numerals.{add-one}
 use native.Mathlib.Omega.{arith}
 use lib.ListN.{length, get_or, take, set}
@@ -58,10 +58,3 @@ module _ {A : Type 0} where
       rw (set_table n (λ j. f (suc j)) i v, eqb-zero-suc)
       (ap (λ (l : List A). f 0 ∷ l)
       (table_ext n (λ j. cond (eqb j i) v (f (suc j))) (λ j. cond (eqb (suc j) (suc i)) v (f (suc j))) (λ j h. rw eqb-suc-suc)))
-
--- the first values of a function of a list's elements
-pub take_table : {A B : Type 0} (g : A → B) (d : A) (n : ℕ) (l : List A) → length l ≤ n → take (length l) (table n (λ i. g (get_or l i d))) ≡ map g l
-unfolding table
-take_table g d n [] h = refl
-take_table g d zero (a ∷ l) h = absurd (omega arith)
-take_table {B = B} g d (suc n) (a ∷ l) h = ap (λ (r : List B). g a ∷ r) (take_table g d n l (omega arith))

@@ -1,6 +1,6 @@
 // Which setter an entry's kind byte names, and with which approximation.
 
-ghost use Rattle.std.specs.Prelude.{◌≡◌, slice_get};
+ghost use Rattle.std.specs.Prelude.{◌≡◌, suc, length, slice_get};
 ghost use Rattle.sheets.specs.Edition.{approximations_in};
 ghost use Rattle.sheets.specs.Kind.{exact, setter_for, setter_in, setter_of};
 
@@ -18,18 +18,24 @@ pub enum Setter {
     CrossoverSvf,
 }
 
-// The approximation of a kind byte's high half, of those that the edition has (02 d).
+// The last approximation that an edition has.
+fn last_approximation(edition: Edition) -> u8
+    ensures { length (approximations_in edition) ≡ suc result }
+{
+    match edition {
+        Edition::One => 3,
+        Edition::Two => 4,
+    }
+}
+
+// The approximation of a kind byte's high half, up to the limit of the edition (02 d).
 fn approximation_in(edition: Edition, n: u8) -> Option<FrequencyApproximation>
     ensures { result ≡ slice_get (approximations_in edition) n }
 {
-    match (n, edition) {
-        (0, _) => Some(FrequencyApproximation::Exact),
-        (1, _) => Some(FrequencyApproximation::Accurate),
-        (2, _) => Some(FrequencyApproximation::Fast),
-        (3, _) => Some(FrequencyApproximation::Dirty),
-        (4, Edition::Two) => Some(FrequencyApproximation::Series),
-        _ => None,
+    if last_approximation(edition) < n {
+        return None;
     }
+    FrequencyApproximation::try_from(u32::from(n)).ok()
 }
 
 // A setter that takes approximation 0 only.
