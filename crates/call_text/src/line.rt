@@ -78,6 +78,8 @@ pub enum BadLine {
     Words,
 }
 
+// Each reader below has words of its own behind the keyword. One for any two words would take two readers of a word, and be no shorter.
+
 // HEAD
 fn one_number(mut fields: Fields<'_>) -> Option<usize>
     ensures { result ≡ one_number (fields_left fields.entry) }

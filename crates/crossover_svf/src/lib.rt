@@ -9,7 +9,8 @@ ghost use Rattle.crossover_svf.specs.CrossoverSvf.{crossover_new, crossover_init
 use filter_core::{FilterMode, Form};
 use modified_svf::ModifiedSvf;
 
-// The members of x, lp and bp are those of the first and of the second pass.
+// The members of x, lp and bp are those of the first and of the second pass. By field, as the source has them: two ModifiedSvf would hold
+// the settings twice.
 #[derive(Clone, Copy)]
 pub struct CrossoverSvf {
     pub f: f32,

@@ -48,7 +48,7 @@ pub fn check_step(step: usize) -> Result<(), Refusal>
 // The lowest frequency that Exact takes: the negative of where it clips.
 pub const EXACT_LOWEST: f32 = -0.497;
 
-// Exact takes no frequency below that; the others take every one.
+// Exact takes no frequency below that; the others take every one. The two are parameters here and in the setters, as the source has them.
 pub fn check_frequency(f: f32, approximation: FrequencyApproximation) -> Result<(), Refusal>
     ensures { number_in result ≡ frequency_refusal f approximation }
 {

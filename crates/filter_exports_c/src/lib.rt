@@ -1,4 +1,5 @@
 // The functions of filter_exports for C and Rust to link: the same name, the same values lent and the same clauses for each, and nothing else.
+// Numbers, arrays and functions that are alike are C's, as there.
 
 #![tactic(auto)]
 

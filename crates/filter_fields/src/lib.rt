@@ -8,8 +8,7 @@ ghost use Rattle.filter_fields.specs.Fields.{svf_retained};
 
 use svf::Svf;
 
-// Hands back the state of a filter whose settings are still those of the array. The settings are read again, not taken from s: then the
-// compiler sees that they need no store. Where they are stored it reads g and r as a pair and shuffles them at every sample.
+// Hands back the state of a filter whose settings are still those of the array, as a run changes no other field.
 pub fn svf_retain(fields: &mut [f32; 5], s: Svf)
     ensures { fields.new ≡ svf_fields (svf_retained (svf_from fields.old) s) }
 {

@@ -32,7 +32,8 @@ pub(crate) struct Lengths {
 // What a number that names no method answers.
 const NO_METHOD: u8 = 255;
 
-// The fields of a filter that has N of them, at the front of a record's state.
+// The fields of a filter that has N of them, at the front of a record's state. With a closure over them these two would be one, and the
+// functions below half as long, but a closure's bound that names a const parameter is not proved yet: the borrow checker does not cover it.
 fn fields<const N: usize>(w: &[f32; 8]) -> [f32; N]
     requires { N ≤ 8 }
 {

@@ -20,7 +20,7 @@ impl<'a> Fields<'a> {
         }
     }
 
-    // The next field, if there is one.
+    // The next field, if there is one. No Iterator's: this one says what is left, by which `end` and each form are stated.
     pub fn next(&mut self) -> Option<&'a [u8]>
         ensures { MatchOption result (fields_left self.old ≡ []) (λ f. fields_left self.old ≡ f.now ∷ fields_left self.new) }
     {

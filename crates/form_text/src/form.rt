@@ -31,6 +31,8 @@ fn value_of(s: &[u8]) -> Option<f32>
     None
 }
 
+// A function for each form, since each has other values behind its name. One for all would take a reader for each value, and be no shorter.
+
 fn plain_form(mut fields: Fields<'_>) -> Option<RunForm>
     ensures { result ≡ plain_form (fields_left fields.entry) }
 {

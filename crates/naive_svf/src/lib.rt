@@ -89,7 +89,7 @@ impl NaiveSvf {
         Self::sine_series(Self::PI * clip_at(Self::EXACT_CLIP, f))
     }
 
-    // The same from 0 up, and mirrored below.
+    // The same from 0 up, and mirrored below, as OnePole has the tangent.
     fn sine_mirrored(f: f32) -> f32
         ensures { result ≡ sine_mirrored f }
     {

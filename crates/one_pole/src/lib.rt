@@ -114,7 +114,7 @@ impl OnePole {
         }
     }
 
-    // The same from 0 up, and mirrored below.
+    // The same from 0 up, and mirrored below. One function lent the tangent or NaiveSvf's sine would be no shorter than the two.
     fn tan_mirrored(f: f32) -> f32
         ensures { result ≡ tan_mirrored f }
     {

@@ -1,4 +1,6 @@
-// Runs with one output. Each type takes the forms that it has, and refuses any other.
+// Runs with one output. Each type takes the forms that it has, and refuses any other. The form, the input and the output are 01's run.
+// Four types have the plain form alone, with a function of three lines each: one for the four would be told what a plain form is, and be
+// no shorter.
 
 ghost use Rattle.std.specs.Prelude.{◌≡◌};
 ghost use Rattle.filter_core.specs.Buffer.{within};

@@ -1,4 +1,4 @@
-// The sheet reader for C to call, for a machine that has room for no more than that.
+// The sheet reader for C to call, for a machine that has room for no more than that. C has no Result: so a refusal is a number.
 #![tactic(auto)]
 
 ghost use Rattle.std.specs.Prelude.{◌≡◌, ◌+◌, ◌*◌, ◌≤◌, ◌<◌, length, take, drop};

@@ -1,4 +1,5 @@
 // The functions of sheet_exports for C to link: the same name, the same values lent and the same clauses for each, and nothing else.
+// A refusal is a number here too.
 
 #![tactic(auto)]
 

@@ -262,7 +262,7 @@ impl Form<Svf> for Gain {
     }
 }
 
-// The sum of the three taps, each with a gain of its own.
+// The sum of the three taps, each with a gain of its own: gains, so that no sample's taps are taken for them.
 #[derive(Clone, Copy)]
 struct Mix {
     high: f32,
