@@ -11,7 +11,7 @@ use modified_svf::ModifiedSvf;
 
 // The members of x, lp and bp are those of the first and of the second pass. By field, as the source has them: two ModifiedSvf would hold
 // the settings twice.
-#[derive(Clone, Copy)]
+#[derive(Clone, Copy, Default)]
 pub struct CrossoverSvf {
     pub f: f32,
     pub fq: f32,
@@ -24,13 +24,7 @@ impl CrossoverSvf {
     pub fn new() -> Self
         ensures { result ≡ crossover_new }
     {
-        Self {
-            f: 0.0,
-            fq: 0.0,
-            x: [0.0; 2],
-            lp: [0.0; 2],
-            bp: [0.0; 2],
-        }
+        Self::default()
     }
 
     pub fn init(&mut self)
@@ -47,7 +41,7 @@ impl CrossoverSvf {
         self.bp = [0.0; 2];
     }
 
-    // The last samples x stay, as in the source.
+    // The last samples x stay, as in the source, whose parameters f and fq are.
     pub fn set_f_fq(&mut self, f: f32, fq: f32)
         ensures { self.new ≡ crossover_set_f_fq self.old f fq }
     {
@@ -55,7 +49,7 @@ impl CrossoverSvf {
         self.fq = fq;
     }
 
-    // The pass k as a filter of its own.
+    // The pass k as a filter of its own, field by field: it has them from two places.
     fn pass(&self, k: usize) -> ModifiedSvf
         requires { k < 2 }
         ensures { result ≡ pass k self.now }
@@ -92,6 +86,7 @@ impl CrossoverSvf {
         out
     }
 
+    // With the source's parameters: why they are no struct is said at `filter_each`.
     pub fn process(&mut self, in_: &[f32], out: &mut [f32], mode: FilterMode)
         ensures { Filtered (each (crossover_next mode)) (puts (crossover_out mode)) self.old (within in_.now out.old) out.old self.new out.new }
     {

@@ -8,7 +8,7 @@ ghost use Rattle.dc_blocker.specs.Fields.{dc_from, dc_fields};
 
 use filter_core::Form;
 
-#[derive(Clone, Copy)]
+#[derive(Clone, Copy, Default)]
 pub struct DcBlocker {
     pub pole: f32,
     pub x: f32,
@@ -19,11 +19,7 @@ impl DcBlocker {
     pub fn new() -> Self
         ensures { result ≡ dc_new }
     {
-        Self {
-            pole: 0.0,
-            x: 0.0,
-            y: 0.0,
-        }
+        Self::default()
     }
 
     pub fn init(&mut self, pole: f32)

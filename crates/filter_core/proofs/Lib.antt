@@ -1,4 +1,3 @@
-pub mod Choices
 pub mod Passes
 pub mod Kept
 pub mod Horner

@@ -1,33 +1,16 @@
 -- The first number whose case holds: there is one at most, and a check that goes by the cases in turn finds it. Assumes nothing.
-use Prim.Native.Nat.{ℕ, ◌≤◌, ◌<◌}
+use Prim.Native.Nat.{ℕ}
 use mathlib.Core.Path.{◌≡◌, refl}
 use mathlib.Core.Bool.{Bool, true, false, cond}
 use mathlib.Core.List.{List, [], ◌∷◌}
-use mathlib.Core.Logic.{◌⊎◌, inl, inr}
-use borrow.Author.Tests.{eqb-true, eqb-false, eq-eqb, ne_eqb, ltb-true, ltb-false}
-use lib.Dec.{eqb, ltb}
+use borrow.Author.Tests.{eqb-true, eqb-false, ne_eqb}
+use lib.Dec.{eqb}
 use lib.Ieee.{Float, lt}
 use native.Mathlib.Omega.{arith}
 use Rattle.filter_core.specs.Refusal.{exact_lowest, frequency_refusal}
 use Rattle.filter_core.specs.Rows.{◌then◌, First, none, here, later, Exactly, StepCase, no_step, FrequencyCase, below_lowest, RefusalsByRows}
 use Rattle.filter_core.specs.declared.FrequencyApproximation.{FrequencyApproximation}
 use Rattle.filter_core.specs.declared.FrequencyApproximation.TheVariants.{Exact, Accurate, Fast, Dirty, Series}
-
--- ---- two numbers, decided
-
-pub below : (a b : ℕ) → (a < b) ⊎ (b ≤ a)
-below a b = go (ltb a b) refl
-  where
-    go : (t : Bool) → ltb a b ≡ t → (a < b) ⊎ (b ≤ a)
-    go true e = inl (ltb-true a b e)
-    go false e = inr (ltb-false a b e)
-
-pub same : (a b : ℕ) → (a ≡ b) ⊎ (a ≡ b → ⊥)
-same a b = go (eqb a b) refl
-  where
-    go : (t : Bool) → eqb a b ≡ t → (a ≡ b) ⊎ (a ≡ b → ⊥)
-    go true e = inl (eqb-true a b e)
-    go false e = inr (eqb-false a b e)
 
 -- ---- the first refusal of two
 
@@ -38,9 +21,6 @@ then_zero a b h = go (eqb a 0) refl h
     go : (t : Bool) → eqb a 0 ≡ t → cond (eqb a 0) b a ≡ 0 → (a ≡ 0) × (b ≡ 0)
     go true q h = (eqb-true a 0 q, rw q at h)
     go false q h = absurd (eqb-false a 0 q (rw q at h))
-
-pub none_then : (a b : ℕ) → a ≡ 0 → b ≡ (a then b)
-none_then a b h = rw (eq-eqb a 0 h) refl
 
 pub some_then : (a b : ℕ) → (a ≡ 0 → ⊥) → a ≡ (a then b)
 some_then a b h = rw (ne_eqb a 0 h) refl

@@ -2,6 +2,7 @@ pub mod Arithmetic
 pub mod Mode
 pub mod Series
 pub mod Odd
+pub mod Clip
 pub mod Buffer
 pub mod Refusal
 pub mod Fields

@@ -9,13 +9,14 @@ mod refusal;
 ghost use Rattle.std.specs.Prelude.{◌≡◌, reverse};
 ghost use Rattle.std.specs.List.{fold};
 ghost use Rattle.filter_core.specs.Arithmetic.{◌+ᶠ◌, ◌*ᶠ◌};
+ghost use Rattle.filter_core.specs.Clip.{clip_at};
 ghost use Rattle.filter_core.specs.Mode.{by_mode};
 ghost use Rattle.filter_core.specs.Rows.{RefusalsByRows};
 ghost use Rattle.filter_core.specs.Series.{horner};
 
 pub use form::{Form, PairForm, filter_each, filter_pair};
 pub use number::UnknownNumber;
-pub use refusal::{EXACT_LOWEST, Refusal, check_frequency, check_step};
+pub use refusal::{EXACT_LOWEST, Refusal, check_frequency, check_step, number_in};
 
 #[derive(Clone, Copy, Debug, PartialEq, Eq)]
 pub enum FilterMode {
@@ -62,6 +63,13 @@ pub fn series(y: f32, row: &[f32]) -> f32
         Some((last, before)) => folded(y, before, *last),
         None => 0.0,
     }
+}
+
+// A frequency that is not below the limit becomes the limit, and so does a NaN.
+pub fn clip_at(limit: f32, f: f32) -> f32
+    ensures { result ≡ clip_at limit f }
+{
+    if f < limit { f } else { limit }
 }
 
 // 10 and 11 are answered each in its row's case of the refusal table, and in no other.

@@ -1,5 +1,5 @@
 // Modes and approximations by number, as C has them: 0 LowPass, 1 BandPass, 2 BandPassNormalized, 3 HighPass; 0 Exact, 1 Accurate, 2 Fast,
-// 3 Dirty, 4 Series.
+// 3 Dirty, 4 Series. A number is matched here, where it comes in, and nowhere behind.
 
 ghost use Rattle.std.specs.Prelude.{◌≤◌};
 ghost use Rattle.std.specs.Result.{OkIff};

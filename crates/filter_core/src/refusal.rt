@@ -34,6 +34,16 @@ impl From<Refusal> for u8 {
     }
 }
 
+// The number that a call answers where there is no Result, as in C and in text: 0 for one that is accepted.
+pub fn number_in<T: Copy>(answer: Result<T, Refusal>) -> u8
+    ensures { result ≡ number_in answer }
+{
+    match answer {
+        Ok(_) => 0,
+        Err(refusal) => u8::from(refusal),
+    }
+}
+
 // A stride or a decimation is not 0.
 pub fn check_step(step: usize) -> Result<(), Refusal>
     ensures { number_in result ≡ step_refusal step }

@@ -1,4 +1,4 @@
--- One list written over another, and the loop that does it. Assumes nothing.
+-- One list written over another. Assumes nothing.
 use Prim.Native.Nat.{ℕ, ◌+◌, ◌≤◌, ◌<◌, min}
 use mathlib.Core.Path.{◌≡◌, refl, sym, ap, ◌∙◌}
 use mathlib.Core.List.{List, [], ◌∷◌, ◌++◌, append_assoc}
@@ -7,10 +7,11 @@ use native.Mathlib.Nat.{zero-add, add_assoc}
 use native.Mathlib.Numerals.{add-one}
 use native.Mathlib.Omega.{arith}
 use borrow.Rule.Slice.PartMut.{put_mid}
-use lib.ListN.{length, get_or, set, take, drop, length-set, length-append, drop_of_length-le}
-use lib.Seq.{paste, paste-zero, paste-suc, length-paste, take-paste, drop-paste, take-append-add, take-append-le, take_all, take-length, drop-drop, set_split}
+use lib.ListN.{length, set, take, drop, length-append}
+use lib.Seq.{paste, paste-zero, length-paste, take-paste, drop-paste, take-append-add, take-append-le, take-length, drop-drop, set_split}
 use Rattle.lists.specs.Over.{room, over}
-use Rattle.filter_core.proofs.Rows.{below}
+use Rattle.std.proofs.lemmas.Bool.{cases_lt}
+use Rattle.std.proofs.lemmas.List.{take_min, drop_min}
 
 module _ {A : Type 0} where
   -- where nothing has room, nothing is written
@@ -29,7 +30,7 @@ module _ {A : Type 0} where
   length_inside at xs ys h = length-paste ys at xs (room at xs ys) (omega arith) (omega arith)
 
   pub length_over : (at : ℕ) (xs ys : List A) → length (over at xs ys) ≡ length ys
-  length_over at xs ys = ⊎_elim (λ h. ap length (over_past at xs ys (omega arith))) (length_inside at xs ys) (below (length ys) at)
+  length_over at xs ys = ⊎_elim (λ h. ap length (over_past at xs ys (omega arith))) (length_inside at xs ys) (cases_lt (length ys) at)
 
   -- what a part of ys becomes that takes the front of xs
   pub over_part : (at : ℕ) {k n : ℕ} (xs ys : List A) {zs : List A} → n ≡ room at xs ys → k ≡ n → zs ≡ take n xs → put_mid at k ys zs ≡ over at xs ys
@@ -92,31 +93,17 @@ module _ {A : Type 0} where
       ⊎_elim
       (λ h. over_lost at (at + room at xs ys) xs ws ys (omega arith) (omega arith))
       (λ h. let a : room at xs ys ≡ length xs = omega arith in rw a (over_inside at xs ws ys h))
-      (below (length ys) (at + length xs))
+      (cases_lt (length ys) (at + length xs))
 
 -- ---- as many as there are
 
 module _ {A : Type 0} where
-  pub take_min : (n : ℕ) (l : List A) → take n l ≡ take (min n (length l)) l
-  take_min n l =
-      ⊎_elim
-      (λ h. let e : min n (length l) ≡ n = omega arith in rw e refl)
-      (λ h. take_all n l h ∙ sym (take_all (min n (length l)) l (omega arith)))
-      (below n (length l))
-
-  pub drop_min : (n : ℕ) (l : List A) → drop n l ≡ drop (min n (length l)) l
-  drop_min n l =
-      ⊎_elim
-      (λ h. let e : min n (length l) ≡ n = omega arith in rw e refl)
-      (λ h. drop_of_length-le l {i = n} h ∙ sym (drop_of_length-le l {i = min n (length l)} (omega arith)))
-      (below n (length l))
-
   -- what had room, and what is left of it
   pub take_room : (xs ys : List A) → take (room 0 xs ys) xs ≡ take (length ys) xs
-  take_room xs ys = let e : room 0 xs ys ≡ min (length ys) (length xs) = omega arith in rw e (sym (take_min (length ys) xs))
+  take_room xs ys = let e : room 0 xs ys ≡ min (length ys) (length xs) = omega arith in rw e (take_min (length ys) xs)
 
   pub drop_room : (xs ys : List A) → drop (room 0 xs ys) xs ≡ drop (length ys) xs
-  drop_room xs ys = let e : room 0 xs ys ≡ min (length ys) (length xs) = omega arith in rw e (sym (drop_min (length ys) xs))
+  drop_room xs ys = let e : room 0 xs ys ≡ min (length ys) (length xs) = omega arith in rw e (drop_min (length ys) xs)
 
   -- what was written, and what stands behind it
   pub over_written : (xs ys : List A) → take (room 0 xs ys) (over 0 xs ys) ≡ take (length ys) xs
@@ -130,31 +117,3 @@ module _ {A : Type 0} where
   over_kept xs ys =
       let n = room 0 xs ys in
       ap (λ (k : ℕ). drop k (paste ys 0 xs n)) (sym (zero-add n)) ∙ drop-paste ys 0 xs n (omega arith) (omega arith) ∙ ap (λ (k : ℕ). drop k ys) (zero-add n)
-
--- ---- the loop
-
-module _ {A : Type 0} where
-  -- the first i of n places are written
-  pub record Copied (at : ℕ) (xs ys : List A) (n i : ℕ) (zs : List A) : Type 0 where
-    pub inside : i ≤ n
-    pub source : n ≤ length xs
-    pub places : at + n ≤ length ys
-    pub long : length zs ≡ length ys
-    is : zs ≡ paste ys at xs i
-
-  pub copy_start : (at : ℕ) (xs ys : List A) (n : ℕ) → at ≤ length ys → n ≡ room at xs ys → Copied at xs ys n 0 ys
-  copy_start at xs ys n l e = record { inside = omega arith; source = omega arith; places = omega arith; long = refl; is = paste-zero ys at xs }
-
-  pub copy_again : {at : ℕ} {xs ys : List A} {n i : ℕ} {zs : List A} (d : A) → Copied at xs ys n i zs → i < n → Copied at xs ys n (i + 1) (set zs (at + i) (get_or xs i d))
-  copy_again {at} {xs} {ys} {n} {i} {zs} d c h =
-      record {
-        inside = omega arith;
-        source = c.source;
-        places = c.places;
-        long = length-set zs (at + i) (get_or xs i d) ∙ c.long;
-        is = rw (c.is, add-one) (paste-suc ys at xs i d (omega (arith, c.places)) (omega (arith, c.source)));
-      }
-
-  pub copy_done : {at : ℕ} {xs ys : List A} {n i : ℕ} {zs : List A} → Copied at xs ys n i zs → n ≤ i → n ≡ room at xs ys → zs ≡ over at xs ys
-  unfolding over
-  copy_done {at} {xs} {ys} {n} {i} {zs} c h e = let w : i ≡ room at xs ys = omega (arith, c.inside) in rw (← w) c.is

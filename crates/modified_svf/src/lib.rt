@@ -8,7 +8,7 @@ ghost use Rattle.modified_svf.specs.ModifiedSvf.{modified_new, modified_init, mo
 
 use filter_core::{FilterMode, Form};
 
-#[derive(Clone, Copy)]
+#[derive(Clone, Copy, Default)]
 pub struct ModifiedSvf {
     pub f: f32,
     pub fq: f32,
@@ -21,13 +21,7 @@ impl ModifiedSvf {
     pub fn new() -> Self
         ensures { result ≡ modified_new }
     {
-        Self {
-            f: 0.0,
-            fq: 0.0,
-            x: 0.0,
-            lp: 0.0,
-            bp: 0.0,
-        }
+        Self::default()
     }
 
     pub fn init(&mut self)

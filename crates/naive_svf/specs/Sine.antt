@@ -1,15 +1,11 @@
 -- The frequency coefficient: twice the sine of π f by the series of Abramowitz and Stegun, or 2 π f.
-use Rattle.std.specs.Prelude.{cond, List, [], ◌∷◌, Float}
-use Rattle.std.specs.Float.Ieee.{lt}
+use Rattle.std.specs.Prelude.{List, [], ◌∷◌, Float}
 use Rattle.filter_core.specs.Arithmetic.{◌*ᶠ◌, word, oneᶠ, twoᶠ, πᶠ}
 use Rattle.filter_core.specs.Series.{horner}
+use Rattle.filter_core.specs.Clip.{clip_at}
 use Rattle.filter_core.specs.Odd.{odd, OddFrom}
 use Rattle.filter_core.specs.declared.FrequencyApproximation.{FrequencyApproximation}
 use Rattle.filter_core.specs.declared.FrequencyApproximation.TheVariants.{Exact, Accurate, Fast, Dirty, Series}
-
--- the limit where f is not below it, so at a NaN too
-abbrev pub clip_at : Float → Float → Float
-clip_at limit f = cond (lt f limit) f limit
 
 -- 4.3.97: 1, -0.1666666664, 0.0083333315, -0.0001984090, 0.0000027526, -0.0000000239
 abbrev sine_row : List Float

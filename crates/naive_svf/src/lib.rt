@@ -5,13 +5,13 @@ ghost use Rattle.std.specs.Prelude.{◌≡◌, ◌<◌};
 ghost use Rattle.filter_core.specs.Buffer.{Filtered, within, each, puts, puts_due};
 ghost use Rattle.filter_core.specs.Refusal.{Answered, number_in, frequency_refusal, unless_refused};
 ghost use Rattle.naive_svf.specs.Fields.{naive_from, naive_fields};
-ghost use Rattle.naive_svf.specs.Sine.{clip_at, sine_series, sine_exact, sine_mirrored, naive_exact, naive_linear, naive_frequency, SineIsOdd};
+ghost use Rattle.naive_svf.specs.Sine.{sine_series, sine_exact, sine_mirrored, naive_exact, naive_linear, naive_frequency, SineIsOdd};
 ghost use Rattle.naive_svf.specs.NaiveSvf.{naive_new, naive_reset, naive_set, naive_set_f_q, naive_init};
 ghost use Rattle.naive_svf.specs.NaiveSvf.{naive_normalized, naive_low, naive_band, naive_high, naive_next, naive_out};
 
 use filter_core::{FilterMode, Form, FrequencyApproximation, PairForm, Refusal};
 
-#[derive(Clone, Copy)]
+#[derive(Clone, Copy, Default)]
 pub struct NaiveSvf {
     pub f: f32,
     pub damp: f32,
@@ -24,12 +24,6 @@ pub struct NaiveSvf {
 struct Taps {
     normalized: f32,
     high: f32,
-}
-
-fn clip_at(limit: f32, f: f32) -> f32
-    ensures { result ≡ clip_at limit f }
-{
-    if f < limit { f } else { limit }
 }
 
 impl NaiveSvf {
@@ -53,12 +47,7 @@ impl NaiveSvf {
     pub fn new() -> Self
         ensures { result ≡ naive_new }
     {
-        Self {
-            f: 0.0,
-            damp: 0.0,
-            lp: 0.0,
-            bp: 0.0,
-        }
+        Self::default()
     }
 
     pub fn init(&mut self)
@@ -86,7 +75,7 @@ impl NaiveSvf {
     fn sine_exact(f: f32) -> f32
         ensures { result ≡ sine_exact f }
     {
-        Self::sine_series(Self::PI * clip_at(Self::EXACT_CLIP, f))
+        Self::sine_series(Self::PI * filter_core::clip_at(Self::EXACT_CLIP, f))
     }
 
     // The same from 0 up, and mirrored below, as OnePole has the tangent.
@@ -109,7 +98,7 @@ impl NaiveSvf {
     fn linear_frequency(f: f32) -> f32
         ensures { result ≡ naive_linear f }
     {
-        2.0 * Self::PI * clip_at(Self::LINEAR_CLIP, f)
+        2.0 * Self::PI * filter_core::clip_at(Self::LINEAR_CLIP, f)
     }
 
     fn frequency(f: f32, approximation: FrequencyApproximation) -> f32
@@ -215,7 +204,7 @@ impl NaiveSvf {
         ensures { Filtered (each naive_next) (puts_due decimate (naive_out mode)) self.old (within in_.now out.old) out.old self.new out.new }
     {
         let n = in_.len().min(out.len());
-        // The phase begins anew at each call. It is counted down: a division at each sample would cost more than the sample.
+        // The phase begins anew at each call. It is counted down, so that no sample has a division.
         let mut left = 0;
         for i in 0..n {
             let y = self.process(in_[i], mode);

@@ -1,8 +1,9 @@
 -- tan (π f): the series of Abramowitz and Stegun, and the source's three polynomials.
 use Rattle.std.specs.Prelude.{cond, List, [], ◌∷◌, Float}
-use Rattle.std.specs.Float.Ieee.{lt, le}
+use Rattle.std.specs.Float.Ieee.{le}
 use Rattle.filter_core.specs.Arithmetic.{◌+ᶠ◌, ◌-ᶠ◌, ◌*ᶠ◌, ◌/ᶠ◌, word, halfᶠ, oneᶠ, πᶠ}
 use Rattle.filter_core.specs.Series.{horner}
+use Rattle.filter_core.specs.Clip.{clip_at}
 use Rattle.filter_core.specs.Odd.{odd, OddFrom}
 use Rattle.filter_core.specs.declared.FrequencyApproximation.{FrequencyApproximation}
 use Rattle.filter_core.specs.declared.FrequencyApproximation.TheVariants.{Exact, Accurate, Fast, Dirty, Series}
@@ -11,7 +12,7 @@ use Rattle.filter_core.specs.declared.FrequencyApproximation.TheVariants.{Exact,
 
 -- 0.497 where f is not below it, so at a NaN too
 abbrev pub clip : Float → Float
-clip f = cond (lt f (word 0x3efe_76c9)) f (word 0x3efe_76c9)
+clip f = clip_at (word 0x3efe_76c9) f
 
 -- 4.3.101: 1, 0.3333314036, 0.1333923995, 0.0533740603, 0.0245650893, 0.0029005250, 0.0095168091
 abbrev tangent_row : List Float

@@ -9,7 +9,7 @@ ghost use Rattle.one_pole.specs.OnePole.{one_pole_new, one_pole_init, one_pole_r
 
 use filter_core::{FilterMode, Form, FrequencyApproximation, Refusal};
 
-#[derive(Clone, Copy)]
+#[derive(Clone, Copy, Default)]
 pub struct OnePole {
     pub g: f32,
     pub gi: f32,
@@ -65,11 +65,7 @@ impl OnePole {
     pub fn new() -> Self
         ensures { result ≡ one_pole_new }
     {
-        Self {
-            g: 0.0,
-            gi: 0.0,
-            state: 0.0,
-        }
+        Self::default()
     }
 
     pub fn init(&mut self)
@@ -107,11 +103,7 @@ impl OnePole {
     fn tan_exact(f: f32) -> f32
         ensures { result ≡ tan_exact f }
     {
-        if f < Self::EXACT_CLIP {
-            Self::tan_clipped(f)
-        } else {
-            Self::tan_clipped(Self::EXACT_CLIP)
-        }
+        Self::tan_clipped(filter_core::clip_at(Self::EXACT_CLIP, f))
     }
 
     // The same from 0 up, and mirrored below. One function lent the tangent or NaiveSvf's sine would be no shorter than the two.
@@ -160,7 +152,7 @@ impl OnePole {
         Self::tan_series(x)
     }
 
-    // The value alone, refused or not.
+    // The value alone, refused or not. By the approximation's own cases, each a formula.
     pub fn tan_value(f: f32, approximation: FrequencyApproximation) -> f32
         ensures { result ≡ tan_of f approximation }
     {

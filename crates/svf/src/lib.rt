@@ -12,7 +12,7 @@ ghost use Rattle.svf.specs.Svf.{svf_mixed, svf_multimode};
 use filter_core::{FilterMode, Form, FrequencyApproximation, PairForm, Refusal};
 use one_pole::OnePole;
 
-#[derive(Clone, Copy)]
+#[derive(Clone, Copy, Default)]
 pub struct Svf {
     pub g: f32,
     pub r: f32,
@@ -21,7 +21,7 @@ pub struct Svf {
     pub state_2: f32,
 }
 
-// The three taps of a sample.
+// The three taps of a sample. Numbers as the gains of `Mix` are, but others.
 #[derive(Clone, Copy)]
 struct Taps {
     high: f32,
@@ -33,13 +33,7 @@ impl Svf {
     pub fn new() -> Self
         ensures { result ≡ svf_new }
     {
-        Self {
-            g: 0.0,
-            r: 0.0,
-            h: 0.0,
-            state_1: 0.0,
-            state_2: 0.0,
-        }
+        Self::default()
     }
 
     pub fn init(&mut self)
