@@ -7,7 +7,8 @@ use native.Mathlib.Omega.{arith}
 use lib.ListN.{length, get_or, set, take, drop, length-set}
 use lib.Seq.{take-append_seam, set-append_left}
 use Rattle.filter_core.proofs.Refusals.{stays}
-use Rattle.filter_core.proofs.Rows.{below, exactly}
+use Rattle.std.proofs.lemmas.Bool.{cases_lt}
+use Rattle.filter_core.proofs.Rows.{exactly}
 use Rattle.lists.specs.Over.{over}
 use Rattle.lists.proofs.Tables.{table_ext}
 use Rattle.lists.proofs.Over.{over_all, over_one, length_over}
@@ -100,7 +101,7 @@ module _ (v : Edition) (s : List ℕ) (h : Sheet s) (d : Has v s) where
       λ i. record { edition = w i; entries = record { items = t i } }
 
   as_write : (out : List ℕ) → AsWrite v s out (library_of (in_edition v s))
-  as_write out = go (below (length out) (length s))
+  as_write out = go (cases_lt (length out) (length s))
     where
       f : Fits (entries_of (in_edition v s)) (in_edition v s)
       f = is_in.size.fits

@@ -8,7 +8,8 @@ use borrow.Author.Tests.{eqb-true, eqb-false, eq-eqb, ltb-true, ltb-false}
 use lib.Dec.{eqb, ltb}
 use lib.ListN.{length}
 use Rattle.filter_core.specs.Rows.{◌then◌, First, none, here, later}
-use Rattle.filter_core.proofs.Rows.{once, passed, given, some_then, below, same, Step, yes, no, step_if, step_given, step_to, first_then, first_last}
+use Rattle.std.proofs.lemmas.Bool.{cases_lt, cases_eq}
+use Rattle.filter_core.proofs.Rows.{once, passed, given, some_then, Step, yes, no, step_if, step_given, step_to, first_then, first_last}
 use Rattle.lists.specs.Room.{room_refusal}
 use Rattle.sheets.specs.Sheet.{entries_of, kind_at, check_of}
 use Rattle.sheets.specs.Rows.{Sheet}
@@ -56,7 +57,7 @@ module _ {v : Edition} {s : List ℕ} {m : ℕ} where
   short_case e (short l) = l
 
 pub two_is_not_one : Two ≡ One → ⊥
-two_is_not_one e = let z : ◌≡◌ {A = ℕ} 0 1 = cc in omega arith
+two_is_not_one e = cc
 
 -- the edition v has all that s uses
 abbrev pub Has : Edition → List ℕ → Type 0
@@ -113,7 +114,7 @@ module _ (s : List ℕ) (m : ℕ) (h : Sheet s) where
 
 module _ (v : Edition) (s : List ℕ) (m : ℕ) where
   convert_row : ConvertRow v s m (convert_refusal v s m)
-  convert_row = go (same (check_of s) 0)
+  convert_row = go (cases_eq (check_of s) 0)
     where
       go : (check_of s ≡ 0) ⊎ (check_of s ≡ 0 → ⊥) → ConvertRow v s m (convert_refusal v s m)
       go (inl z) = let h = check_sheet s z in of_sheet h (sheet_numbers s m h v)
@@ -142,7 +143,7 @@ module _ (v : Edition) (s : List ℕ) (m : ℕ) where
       record {
         sheet = h;
         has = λ p u. x.0 (not_in_edition_1 p u);
-        room = ⊎_elim (λ k. absurd (y.0 (short (omega arith)))) (λ k. k) (below m (length s));
+        room = ⊎_elim (λ k. absurd (y.0 (short (omega arith)))) (λ k. k) (cases_lt m (length s));
       }
 
   pub taken : convert_refusal v s m ≡ 0 → Taken v s m

@@ -5,14 +5,14 @@ use mathlib.Core.List.{List, [], ◌∷◌, ◌++◌, map}
 use native.Mathlib.Omega.{arith}
 use borrow.Author.Tests.{ne_eqb}
 use lib.ListN.{length, get_or, take, drop, length-drop, take-append-drop}
-use lib.Seq.{take_all, take-append_seam, drop-drop, get_or-drop}
+use lib.Seq.{take_all, take-append_seam, drop-cons, drop-drop}
 use Rattle.std.specs.Prelude.{Some, slice_get}
 use Rattle.std.proofs.lemmas.Option.{slice_get-get_or}
 use Rattle.std.specs.List.{flat_map}
 use Rattle.lists.specs.Table.{table}
-use Rattle.lists.proofs.Tables.{length_table, get_or_table, table_ext}
+use Rattle.lists.proofs.Tables.{length_table, get_or_table}
 use Rattle.lists.proofs.Over.{over_all}
-use Rattle.sheets.specs.Sheet.{entries_of, edition_in, Fits, Sized, kind_at, entry_in}
+use Rattle.sheets.specs.Sheet.{entries_of, edition_in, Fits, Sized, entry_in}
 use Rattle.sheets.specs.Rows.{Sheet}
 use Rattle.sheets.specs.Edition.{edition_byte}
 use Rattle.sheets.proofs.Checks.{edition_back}
@@ -20,16 +20,15 @@ use Rattle.sheets.proofs.Rows.{sheet_check}
 use Rattle.library.specs.Library.{count, none, stored_in, library_of, bytes_of, entry_from, entry_at, write_number}
 use Rattle.library.specs.RoundTrip.{Rewritten, ReadWrite, Reread, written_sheet, WriteRead, RefusedWrite, OneSheet, SameEntries}
 use Rattle.library.specs.declared.StoredEntry.{StoredEntry}
-use Rattle.library.proofs.Tables.{map_table, ones, twelves}
+use Rattle.library.proofs.Tables.{pieces}
+use Rattle.std.proofs.lemmas.List.Concat.{flat_map_single}
 use Rattle.lists.proofs.Tables.{table_none}
 use Rattle.library.proofs.Rows.{write_fits}
 
 -- ---- lists
 
 two_first : (s : List ℕ) → 2 ≤ length s → s ≡ get_or s 0 0 ∷ get_or s 1 0 ∷ drop 2 s
-two_first [] h = absurd (omega arith)
-two_first (x ∷ []) h = absurd (omega arith)
-two_first (x ∷ (y ∷ s)) h = refl
+two_first s h = drop-cons s 0 0 (omega arith) ∙ ap (λ (l : List ℕ). get_or s 0 0 ∷ l) (drop-cons s 1 0 (omega arith))
 
 -- ---- a sheet's parts in its library
 
@@ -41,15 +40,17 @@ module _ (s : List ℕ) (z : Fits (entries_of s) s) where
   kinds_in =
       let n = entries_of s in
       let l = z.long in
-      map_table (λ (t : StoredEntry). t.kind) n (stored_in s)
-      ∙ table_ext n (λ i. kind_at s i) (λ i. get_or (drop 2 s) i 0) (λ i h. sym (get_or-drop 2 s i 0))
-      ∙ ones n (drop 2 s) (omega (arith, length-drop 2 s))
+      let m : 1 * n ≡ n = omega arith in
+      sym (flat_map_single (λ (t : StoredEntry). t.kind) (table n (stored_in s)))
+      ∙ pieces 1 n (drop 2 s) (λ (t : StoredEntry). t.kind ∷ []) (stored_in s)
+      (λ i h. let p : 1 * i ≡ i = omega arith in rw (p, drop-drop i 2 s, drop-cons s (2 + i) 0 (omega arith)) refl)
+      ∙ ap (λ (k : ℕ). take k (drop 2 s)) m
 
   settings_in : flat_map (λ (t : StoredEntry). t.setting) (library_of s).entries.items ≡ drop (2 + entries_of s) s
   settings_in =
       let n = entries_of s in
       let l = z.long in
-      twelves n (drop (2 + n) s) (λ (t : StoredEntry). t.setting) (stored_in s) (λ i. ap (take 12) (sym (drop-drop (12 * i) (2 + n) s)))
+      pieces 12 n (drop (2 + n) s) (λ (t : StoredEntry). t.setting) (stored_in s) (λ i h. ap (take 12) (sym (drop-drop (12 * i) (2 + n) s)))
       ∙ take_all (12 * n) (drop (2 + n) s) (omega (arith, length-drop (2 + n) s))
 
 -- the sheet of the library is the sheet

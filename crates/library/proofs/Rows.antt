@@ -7,7 +7,8 @@ use native.Mathlib.Omega.{arith}
 use borrow.Author.Tests.{lt-ltb, le-ltb}
 use lib.ListN.{length}
 use Rattle.filter_core.specs.Rows.{First, none, here, later}
-use Rattle.filter_core.proofs.Rows.{below, exactly}
+use Rattle.std.proofs.lemmas.Bool.{cases_lt}
+use Rattle.filter_core.proofs.Rows.{exactly}
 use Rattle.library.specs.Library.{count, stored_in, write_refusal}
 use Rattle.library.specs.Rows.{nothing, of_sheet, WriteCase, no_entries, short, WriteRow, WriteByRows}
 use Rattle.library.specs.declared.Library.{Library}
@@ -40,7 +41,7 @@ module _ (n m : ℕ) where
 
 module _ (n m : ℕ) (h : n ≤ 64) where
   write_first : First (WriteCase n m) (2 ∷ 12 ∷ []) (write_refusal n m)
-  write_first = go (below n 1) (below m (2 + 13 * n))
+  write_first = go (cases_lt n 1) (cases_lt m (2 + 13 * n))
     where
       go : (n < 1) ⊎ (1 ≤ n) → (m < 2 + 13 * n) ⊎ (2 + 13 * n ≤ m) → First (WriteCase n m) (2 ∷ 12 ∷ []) (write_refusal n m)
       go (inl a) w = rw (← write_none n m a) (here (no_entries (omega arith)))

@@ -1,7 +1,7 @@
 // A library: a sheet's entries and its edition, held by value.
 #![tactic(auto)]
 
-ghost use Rattle.std.specs.Prelude.{◌≡◌, ◌+◌, ◌*◌, ◌≤◌, ◌<◌, length, map, IfOk};
+ghost use Rattle.std.specs.Prelude.{◌≡◌, ◌+◌, ◌*◌, ◌≤◌, ◌<◌, [], ◌∷◌, length, IfOk};
 ghost use Rattle.std.specs.List.{flat_map};
 ghost use Rattle.filter_core.specs.Refusal.{number_in};
 ghost use Rattle.lists.specs.Over.{over, Puts};
@@ -28,7 +28,7 @@ pub struct Library {
     pub entries: ArrayVec<StoredEntry, 64>,
 }
 
-// The library of a frame that has opened no sheet.
+// The library of a frame that has opened no sheet: a name and a clause of its own, which Default would not have.
 pub fn none() -> Library
     ensures { result ≡ none }
 {
@@ -40,12 +40,12 @@ pub fn none() -> Library
 
 // ---- reading
 
-// Entry e of a sheet of n entries.
+// Entry e of a sheet of n entries. A sheet and a number are two parameters, here as in 01's lookup: the number may be one that it has not.
 fn stored_in(sheet: &[u8], n: usize, e: usize) -> StoredEntry
     requires { Fits n sheet.now × (n ≡ entries_of sheet.now) × (e < n) }
     ensures { result ≡ stored_in sheet.now e }
 {
-    let at = 2 + n + 12 * e;
+    let at = sheets::setting_place(n, e);
     let mut setting = [0; 12];
     setting.copy_from_slice(&sheet[at..at + 12]);
     StoredEntry {
@@ -54,6 +54,7 @@ fn stored_in(sheet: &[u8], n: usize, e: usize) -> StoredEntry
     }
 }
 
+#[tactic(auto, using(lists::proofs::Tables::table_none, lists::proofs::Tables::table_more, crate::proofs::Tables::table_room))]
 fn library_of(sheet: &[u8], n: usize) -> Library
     requires { Fits n sheet.now × (n ≡ entries_of sheet.now) }
     ensures { result ≡ library_of sheet.now }
@@ -93,8 +94,9 @@ fn check_write(n: usize, room: usize) -> Result<usize, Refusal>
     Ok(length)
 }
 
+#[tactic(auto, using(lists::proofs::Over::over_none, std::proofs::lemmas::List::take_all))]
 fn put_kinds(entries: &[StoredEntry], output: &mut [u8], from: usize) -> usize
-    ensures { Puts from (map (λ t. t.kind) entries.now) output.old result output.new }
+    ensures { Puts from (flat_map (λ t. t.kind ∷ []) entries.now) output.old result output.new }
 {
     let mut at = from;
     for entry in entries {
@@ -104,6 +106,7 @@ fn put_kinds(entries: &[StoredEntry], output: &mut [u8], from: usize) -> usize
 }
 
 // The same for the settings. One function for both would take a closure, and a ghost function for its contract: it is longer than the two.
+#[tactic(auto, using(lists::proofs::Over::over_none, std::proofs::lemmas::List::take_all))]
 fn put_settings(entries: &[StoredEntry], output: &mut [u8], from: usize) -> usize
     ensures { Puts from (flat_map (λ t. t.setting) entries.now) output.old result output.new }
 {
@@ -141,15 +144,11 @@ pub fn write(library: &Library, output: &mut [u8]) -> Result<usize, Refusal>
 pub fn entry_at(library: &Library, e: usize) -> Entry
     ensures { result ≡ entry_at library.now e }
 {
-    match library.entries.get(e) {
-        Some(entry) => sheets::entry_of(entry.kind, &entry.setting),
-        None => Entry {
-            kind: 0,
-            a: 0,
-            b: 0,
-            c: 0,
-        },
-    }
+    library
+        .entries
+        .get(e)
+        .map(|entry| sheets::entry_of(entry.kind, &entry.setting))
+        .unwrap_or_default()
 }
 
 // ---- the theorems
@@ -170,11 +169,13 @@ pub fn write_read()
 {}
 
 // A refused write leaves every byte of the output.
+#[tactic(auto, using(crate::proofs::RoundTrip::refused_write))]
 pub fn refused_write()
     ensures { RefusedWrite }
 {}
 
 // Two different sheets are never the same library.
+#[tactic(auto, using(crate::proofs::RoundTrip::one_sheet))]
 pub fn one_sheet()
     ensures { OneSheet }
 {}

@@ -8,7 +8,7 @@ use native.Mathlib.Omega.{arith}
 use borrow.Author.Tests.{eq-eqb, ne_eqb, le-ltb}
 use lib.ListN.{length, take, drop, take-append-drop, drop_of_length-le}
 use lib.Seq.{drop-drop, take-append_seam}
-use Rattle.filter_core.proofs.Rows.{below}
+use Rattle.std.proofs.lemmas.Bool.{cases_lt}
 use Rattle.lists.specs.Over.{room, over}
 use Rattle.lists.proofs.Over.{over_none, drop_room, over_written, over_kept}
 use Rattle.sheets.specs.Rows.{Sheet}
@@ -53,7 +53,7 @@ module _ (v : Save) (out : List ℕ) where
   full z =
       ⊎_elim (λ (h : length out < length (left_of v)). omega arith)
       (λ (h : length (left_of v) ≤ length out). absurd (z (left_taken ∙ drop_of_length-le (left_of v) {i = length out} h)))
-      (below (length out) (length (left_of v)))
+      (cases_lt (length out) (length (left_of v)))
 
   -- as much as has room
   part_is : part_of v out ≡ take (length out) (left_of v)
@@ -72,7 +72,7 @@ module _ (v : Save) (out : List ℕ) where
   none_left z =
       ⊎_elim (λ (h : length (left_of v) < 1). drop_of_length-le (left_of v) {i = 0} (omega arith))
       (λ (h : 1 ≤ length (left_of v)). absurd (z (rw (le-ltb (length (left_of v)) 1 h) refl)))
-      (below (length (left_of v)) 1)
+      (cases_lt (length (left_of v)) 1)
 
   pub take_refused : (take_refusal v ≡ 0 → ⊥) → TakeLeaves v out
   take_refused z = let e = none_left z in record { length = rw (e, zero-min (length out - 0)) refl; save = rw (e, zero-min (length out - 0), add-zero v.taken) refl; output = rw e (over_none 0 out) }

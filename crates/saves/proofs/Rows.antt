@@ -8,7 +8,8 @@ use borrow.Author.Tests.{ltb-true, ltb-false}
 use lib.Dec.{ltb}
 use lib.ListN.{length}
 use Rattle.filter_core.specs.Rows.{First}
-use Rattle.filter_core.proofs.Rows.{below, Step, yes, no, exactly, step_if, step_to, first_then, first_last}
+use Rattle.std.proofs.lemmas.Bool.{cases_lt}
+use Rattle.filter_core.proofs.Rows.{Step, yes, no, exactly, step_if, step_to, first_then, first_last}
 use Rattle.library.specs.Library.{write_refusal, write_number}
 use Rattle.library.specs.Rows.{Held, nothing, of_sheet}
 use Rattle.library.specs.declared.Library.{Library}
@@ -32,7 +33,7 @@ finished_case p (finished e) = e
 
 -- a write with room for every sheet refuses where there is no library, and nowhere else
 no_library : (l : Library) (n : ℕ) → Held l n → Step (n ≡ 0) 2 (write_number l (zero_bytes 834))
-no_library l n h = go l n h (below n 1)
+no_library l n h = go l n h (cases_lt n 1)
   where
     some : (n : ℕ) → n ≤ 64 → (n < 1) ⊎ (1 ≤ n) → Step (n ≡ 0) 2 (write_refusal n (length (zero_bytes 834)))
     some n m (inl a) = rw (← write_none n (length (zero_bytes 834)) a) (yes (omega arith))

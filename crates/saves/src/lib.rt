@@ -3,7 +3,7 @@
 #![tactic(auto)]
 
 ghost use Rattle.std.specs.Prelude.{◌≡◌, ◌-◌, ◌≤◌, length, IfOk};
-ghost use Rattle.filter_core.specs.Refusal.{number_in, unless_refused};
+ghost use Rattle.filter_core.specs.Refusal.{number_in};
 ghost use Rattle.library.specs.Library.{write_number};
 ghost use Rattle.saves.specs.Save.{zero_bytes, untaken, no_save, left_of, unfinished_refusal, finished_refusal, begun_with, begin_refusal, begin_of, take_refusal, take_length, take_of, taken_of};
 ghost use Rattle.saves.specs.Rows.{SavesByRows};
@@ -65,7 +65,7 @@ fn begun_with(library: &Library) -> Result<Save, Refusal>
 }
 
 impl Save {
-    // No save was begun.
+    // No save was begun: a name and a clause of its own, which Default would not have.
     pub fn none() -> Save
         ensures { result ≡ no_save }
     {

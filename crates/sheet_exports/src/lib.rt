@@ -1,34 +1,15 @@
 // The sheet reader for C to call, for a machine that has room for no more than that. C has no Result: so a refusal is a number.
 #![tactic(auto)]
 
-ghost use Rattle.std.specs.Prelude.{◌≡◌, ◌+◌, ◌*◌, ◌≤◌, ◌<◌, length, take, drop};
-ghost use Rattle.filter_core.specs.Refusal.{number_in, unless_refused};
+ghost use Rattle.std.specs.Prelude.{◌≡◌, ◌+◌, ◌*◌, length, take, drop};
+ghost use Rattle.filter_core.specs.Refusal.{unless_refused};
 ghost use Rattle.sheets.specs.Sheet.{entries_of, check_of, check_entry_of, lookup_of};
-
-use filter_core::Refusal;
-
-// The number that C gets, 0 where the call is accepted.
-fn number_in(checked: Result<(), Refusal>) -> u8
-    ensures { result ≡ number_in checked }
-{
-    match checked {
-        Ok(()) => 0,
-        Err(refusal) => u8::from(refusal),
-    }
-}
 
 // The number that opening the sheet gives, 0 if it is a sheet.
 pub fn sheet_check(sheet: &[u8]) -> u8
     ensures { result ≡ check_of sheet.now }
 {
-    number_in(sheets::check(sheet))
-}
-
-fn setting_place(n: usize, e: usize) -> usize
-    requires { (n ≤ 64) × (e < n) }
-    ensures { result ≡ 2 + n + 12 * e }
-{
-    2 + n + 12 * e
+    filter_core::number_in(sheets::check(sheet))
 }
 
 // The number that looking up entry e gives. Where that is 0, `place` becomes the place in the sheet at which the entry's setting begins:
@@ -41,7 +22,7 @@ pub fn sheet_lookup(sheet: &[u8], e: usize, place: &mut usize) -> u8
 {
     let checked = sheets::check_entry(sheet, e);
     if checked.is_ok() {
-        *place = setting_place(sheets::entries(sheet), e);
+        *place = sheets::setting_place(sheets::entries(sheet), e);
     }
-    number_in(checked)
+    filter_core::number_in(checked)
 }

@@ -9,7 +9,8 @@ use native.Mathlib.Omega.{arith}
 use borrow.Author.Tests.{eqb-true, eqb-false, eq-eqb, ne_eqb, lt-ltb, le-ltb}
 use lib.Dec.{eqb}
 use lib.ListN.{length, get_or}
-use Rattle.filter_core.proofs.Rows.{then_zero, some_then, below, same}
+use Rattle.std.proofs.lemmas.Bool.{cases_lt, cases_eq}
+use Rattle.filter_core.proofs.Rows.{then_zero, some_then}
 use Rattle.sheets.specs.Edition.{edition_byte, edition_of, edition_refusal}
 use Rattle.sheets.specs.Refusal.{first_refusal}
 use Rattle.sheets.specs.Sheet.{entries_of, edition_in, Fits, Sized, size_refusal, refusal_at, check_as, check_of, entry_number_refusal, check_entry_of}
@@ -32,21 +33,7 @@ first_again f e p q = rw (add-one e, p) (sym q)
 -- every refusal has a number of its own, which is not 0
 pub numbered : (x : Refusal) → number x ≡ 0 → ⊥
 numbered row.Head z = omega arith
-numbered row.Size z = omega arith
-numbered row.Kind z = omega arith
-numbered row.Word z = omega arith
-numbered row.Entry z = omega arith
-numbered row.Bare z = omega arith
-numbered row.Mark z = omega arith
-numbered row.Full z = omega arith
-numbered row.Form z = omega arith
-numbered row.Step z = omega arith
-numbered row.Frequency z = omega arith
-numbered row.Short z = omega arith
-numbered row.Series z = omega arith
-numbered row.Unfinished z = omega arith
-numbered row.Finished z = omega arith
-numbered row.Count z = omega arith
+numbered _ z = omega arith
 
 pub first_found : (f : ℕ → ℕ) (n e : ℕ) {r : ℕ} → first_refusal e f ≡ 0 → e < n → r ≡ f e → (r ≡ 0 → ⊥) → r ≡ first_refusal n f
 unfolding first_refusal
@@ -98,7 +85,7 @@ data Fit (n : ℕ) (s : List ℕ) : Type 0 where
   unfit : (Fits n s → ⊥) → size_refusal (length s) n ≡ 2 → Fit n s
 
 fit_of : (n : ℕ) (s : List ℕ) → Fit n s
-fit_of n s = go (below l 2) (below n 1) (below 64 n) (same l (2 + 13 * n))
+fit_of n s = go (cases_lt l 2) (cases_lt n 1) (cases_lt 64 n) (cases_eq l (2 + 13 * n))
   where
     l : ℕ
     l = length s
@@ -125,7 +112,7 @@ data Named (b : ℕ) : Type 0 where
   unnamed : ((b ≡ 0) ⊎ (b ≡ 2) → ⊥) → edition_refusal b ≡ 2 → Named b
 
 named_of : (b : ℕ) → Named b
-named_of b = go (same b 0) (same b 2)
+named_of b = go (cases_eq b 0) (cases_eq b 2)
   where
     go : (b ≡ 0) ⊎ (b ≡ 0 → ⊥) → (b ≡ 2) ⊎ (b ≡ 2 → ⊥) → Named b
     go (inl x) y = named (inl x) (rw x refl)
@@ -185,4 +172,4 @@ within {n} {e} (inr h) z = let w = entry_past n e h ∙ z in absurd (omega arith
 pub found : (s : List ℕ) (e : ℕ) → check_entry_of s e ≡ 0 → Fits (entries_of s) s × (e < entries_of s)
 found s e h =
     let p = then_zero (check_of s) (entry_number_refusal (entries_of s) e) h in
-    ((check_size s p.0).fits, within (below e (entries_of s)) p.1)
+    ((check_size s p.0).fits, within (cases_lt e (entries_of s)) p.1)

@@ -1,5 +1,5 @@
 -- The two editions side by side. Assumes nothing.
-use Prim.Native.Nat.{ℕ, zero, suc, ◌+◌, ◌*◌, ◌%◌, ◌/◌, ◌≤◌}
+use Prim.Native.Nat.{ℕ, zero, suc, ◌+◌, ◌-◌, ◌*◌, ◌%◌, ◌/◌, ◌≤◌, ◌<◌}
 use mathlib.Core.Path.{◌≡◌, refl, sym, ap, ◌∙◌}
 use mathlib.Core.List.{List, ◌∷◌}
 use mathlib.Core.Logic.{◌⊎◌, inl, inr}
@@ -9,7 +9,8 @@ use lib.ListN.{length, get_or, drop}
 use lib.Seq.{drop-drop, get_or-drop}
 use Rattle.std.specs.Prelude.{Option, Some, None, slice_get}
 use Rattle.std.specs.Option.{option_and_then}
-use Rattle.filter_core.proofs.Rows.{then_zero, same}
+use Rattle.std.proofs.lemmas.Bool.{cases_lt, cases_eq}
+use Rattle.filter_core.proofs.Rows.{then_zero}
 use Rattle.sheets.specs.Edition.{approximations_in, edition_refusal}
 use Rattle.sheets.specs.Kind.{setter_for, setter_in, setter_of, kind_refusal}
 use Rattle.sheets.specs.Refusal.{first_refusal, refusal_by, entry_refusal}
@@ -25,20 +26,27 @@ use Rattle.sheets.proofs.Checks.{first_all, first_each, too_many}
 -- ---- the setters of edition 1: those of edition 2 up to approximation 3, and no other
 
 -- by the setter's kind k and its approximation p
-abbrev named : Edition → ℕ → ℕ → Option Setter
+abbrev pub named : Edition → ℕ → ℕ → Option Setter
 named v k p = option_and_then (setter_for k) (slice_get (approximations_in v) p)
 
-four : (k p : ℕ) → kind_refusal (named One k p) ≡ 0 → named One k p ≡ named Two k p
-four k zero z = refl
-four k (suc zero) z = refl
-four k (suc (suc zero)) z = refl
-four k (suc (suc (suc zero))) z = refl
-four k (suc (suc (suc (suc p)))) z = absurd (omega arith)
+four : (k p : ℕ) → p < 4 → named One k p ≡ named Two k p
+four k zero h = refl
+four k (suc zero) h = refl
+four k (suc (suc zero)) h = refl
+four k (suc (suc (suc zero))) h = refl
+four k (suc (suc (suc (suc p)))) h = absurd (omega arith)
+
+past_four : (k p : ℕ) → 4 ≤ p → named One k p ≡ None
+past_four k p h = let e : p ≡ suc (suc (suc (suc (p - 4)))) = omega arith in rw e refl
 
 -- a byte that an edition takes names the setter that a load goes by
 one_setter : (v : Edition) (b : ℕ) → kind_refusal (setter_in v b) ≡ 0 → setter_in v b ≡ setter_of b
 one_setter Two b z = refl
-one_setter One b z = four (b % 16) (b / 16) z
+one_setter One b z = go (cases_lt (b / 16) 4)
+  where
+    go : (b / 16 < 4) ⊎ (4 ≤ b / 16) → setter_in One b ≡ setter_of b
+    go (inl h) = four (b % 16) (b / 16) h
+    go (inr h) = let w : kind_refusal None ≡ 0 = rw (past_four (b % 16) (b / 16) h) at z in absurd (omega arith)
 
 kind_right : (o : Option Setter) (t : Entry) → refusal_by o t ≡ 0 → kind_refusal o ≡ 0
 kind_right (Some s) t z = refl
@@ -60,7 +68,7 @@ module _ (s : List ℕ) where
   declined h = let w = one_declines h in record { check = w; entry = λ e. rw w refl; lookup = λ e. rw w refl }
 
   agreed : (get_or s 1 0 ≡ 2 → ⊥) → Agreed s
-  agreed h = go (same (get_or s 1 0) 0)
+  agreed h = go (cases_eq (get_or s 1 0) 0)
     where
       go : (get_or s 1 0 ≡ 0) ⊎ (get_or s 1 0 ≡ 0 → ⊥) → Agreed s
       go (inl z) =

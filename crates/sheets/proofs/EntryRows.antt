@@ -1,7 +1,7 @@
 -- The number of an entry is that of its row. Assumes nothing.
 use Prim.Native.Nat.{ℕ, ◌%◌, ◌/◌, ◌≤◌}
-use mathlib.Core.Path.{◌≡◌, refl, sym, subst, ◌∙◌}
-use mathlib.Core.Bool.{Bool, true, false, cond}
+use mathlib.Core.Path.{◌≡◌, refl}
+use mathlib.Core.Bool.{Bool, true, false}
 use native.Mathlib.Omega.{arith}
 use borrow.Author.Tests.{eqb-true, eqb-false, ltb-true, ltb-false}
 use lib.Dec.{eqb, ltb}
@@ -27,10 +27,7 @@ module _ (u k w : ℕ) where
   word_right f g (another_nan n z) = z (g n)
 
   zero_no_nan : w ≡ 0 → is_nan (word w) ≡ true → ⊥
-  zero_no_nan e n = let z : false ≡ true = sym (nan_test 0) ∙ rw (sym e) n in subst (λ (t : Bool). cond t ⊥ Unit) z tt
-
-  no_nan : is_nan (word w) ≡ false → is_nan (word w) ≡ true → ⊥
-  no_nan p q = subst (λ (t : Bool). cond t ⊥ Unit) (sym p ∙ q) tt
+  zero_no_nan e n = let z : is_nan (word 0) ≡ false = nan_test 0 in cc
 
   word_step : Step (WordWrong u k w) 4 (word_refusal u k w)
   word_step = go (ltb k u) (eqb w 0) (eqb w written_nan) (is_nan (word w)) refl refl refl refl
@@ -38,7 +35,7 @@ module _ (u k w : ℕ) where
       go : (a b c d : Bool) → ltb k u ≡ a → eqb w 0 ≡ b → eqb w written_nan ≡ c → is_nan (word w) ≡ d → Step (WordWrong u k w) 4 (word_refusal u k w)
       go true b true d p q r s = rw (p, r) (no (word_right (λ l. absurd (omega (arith, ltb-true k u p))) (λ n. eqb-true w written_nan r)))
       go true b false true p q r s = rw (p, r, s) (yes (another_nan s (eqb-false w written_nan r)))
-      go true b false false p q r s = rw (p, r, s) (no (word_right (λ l. absurd (omega (arith, ltb-true k u p))) (λ n. absurd (no_nan s n))))
+      go true b false false p q r s = rw (p, r, s) (no (word_right (λ l. absurd (omega (arith, ltb-true k u p))) (λ n. cc)))
       go false true c d p q r s = rw (p, q) (no (word_right (λ l. eqb-true w 0 q) (λ n. absurd (zero_no_nan (eqb-true w 0 q) n))))
       go false false c d p q r s = rw (p, q) (yes (unused (ltb-false k u p) (eqb-false w 0 q)))
 

@@ -1,5 +1,6 @@
 pub mod Checks
 pub mod Editions
+pub mod KindBytes
 pub mod Setters
 pub mod KindRows
 pub mod EntryRows

@@ -23,7 +23,7 @@ impl From<Edition> for u8 {
     }
 }
 
-// Any other byte is refused.
+// A byte is a number in a sheet, and an edition behind this match. Any other than these is refused.
 impl TryFrom<u8> for Edition {
     type Error = Refusal;
 
@@ -35,5 +35,15 @@ impl TryFrom<u8> for Edition {
             2 => Ok(Edition::Two),
             _ => Err(Refusal::Size),
         }
+    }
+}
+
+// For a caller whose byte was checked: one that names no edition counts as edition 1's here.
+pub fn edition_of(byte: u8) -> Edition
+    ensures { result ≡ edition_of byte }
+{
+    match byte {
+        2 => Edition::Two,
+        _ => Edition::One,
     }
 }

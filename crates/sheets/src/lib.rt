@@ -13,11 +13,12 @@ ghost use Rattle.sheets.specs.Editions.{BothEditions};
 ghost use Rattle.sheets.specs.Rows.{CheckByRows, WordsReturn};
 ghost use Rattle.sheets.specs.Setters.{AsSetters};
 
-pub use edition::Edition;
+pub use edition::{Edition, edition_of};
 pub use edition_one::{check_edition_one, check_entry_edition_one, lookup_edition_one};
 pub use entry::{Entry, entry_of};
 pub use reader::{check, check_entry, edition_in, entries, lookup};
 pub use setter::{Setter, setter_in, setter_of};
+pub use sheet::setting_place;
 
 // `check` and `check_entry` answer each number in its row's case of the refusal table, and in no other.
 pub fn check_by_rows()

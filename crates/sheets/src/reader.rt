@@ -6,7 +6,7 @@ ghost use Rattle.filter_core.specs.Rows.{◌then◌};
 ghost use Rattle.sheets.specs.Edition.{edition_refusal};
 ghost use Rattle.sheets.specs.Sheet.{entries_of, edition_in, size_refusal, check_of, check_entry_of, lookup_of};
 
-use crate::edition::Edition;
+use crate::edition::{Edition, edition_of};
 use crate::sheet::Sheet;
 use filter_core::Refusal;
 
@@ -21,7 +21,7 @@ pub fn entries(sheet: &[u8]) -> usize
 pub fn edition_in(sheet: &[u8]) -> Edition
     ensures { result ≡ edition_in sheet.now }
 {
-    Edition::try_from(words::byte_at(sheet, 0, 1)).unwrap_or(Edition::One)
+    edition_of(words::byte_at(sheet, 0, 1))
 }
 
 // A sheet by its edition and its size; its entries are not checked yet.

@@ -48,6 +48,7 @@ fn exact(setter: Setter, approximation: FrequencyApproximation) -> Option<Setter
     }
 }
 
+// A kind is a number in a sheet, and a setter behind this match.
 fn setter_for(kind: u8, approximation: FrequencyApproximation) -> Option<Setter>
     ensures { result ≡ setter_for kind approximation }
 {

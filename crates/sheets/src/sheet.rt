@@ -1,6 +1,6 @@
 // Bytes that have the size of a sheet, and what they hold.
 
-ghost use Rattle.std.specs.Prelude.{◌≡◌, ◌<◌, length, IfOk};
+ghost use Rattle.std.specs.Prelude.{◌≡◌, ◌+◌, ◌-◌, ◌*◌, ◌^◌, ◌<◌, min, length, IfOk};
 ghost use Rattle.filter_core.specs.Refusal.{number_in};
 ghost use Rattle.filter_core.specs.Rows.{◌then◌};
 ghost use Rattle.sheets.specs.Refusal.{first_refusal};
@@ -10,6 +10,13 @@ use crate::edition::Edition;
 use crate::entry::{Entry, entry_of};
 use crate::refusal::check_entry;
 use filter_core::Refusal;
+
+// Where the setting of entry e begins behind n kinds. Numbers that no sheet has give a place too, at most the last there is.
+pub fn setting_place(n: usize, e: usize) -> usize
+    ensures { result ≡ min (2 + n + 12 * e) (2 ^ 64 - 1) }
+{
+    e.saturating_mul(12).saturating_add(n.saturating_add(2))
+}
 
 // As many bytes as n entries take, to be read by an edition. Both readers make one, each in its way.
 #[derive(Clone, Copy)]
@@ -35,7 +42,7 @@ impl<'a> Sheet<'a> {
         requires { e < self.now.n }
         ensures { result.now ≡ setting_behind self.now.n self.now.bytes.now e }
     {
-        let at = 2 + self.n + 12 * e;
+        let at = setting_place(self.n, e);
         &self.bytes[at..at + 12]
     }
 

@@ -38,10 +38,7 @@ fn word_of(a: u8, b: u8, c: u8, d: u8) -> u32
 pub fn byte_at(bytes: &[u8], at: usize, k: usize) -> u8
     ensures { result ≡ get_or bytes.now (at + k) 0 }
 {
-    match bytes.get(at.saturating_add(k)) {
-        Some(&byte) => byte,
-        None => 0,
-    }
+    bytes.get(at.saturating_add(k)).copied().unwrap_or(0)
 }
 
 // The word whose low byte stands at `at`; bytes past the end count as 0.

@@ -1,11 +1,7 @@
-use Rattle.library.proofs.Writings.{writings}
+-- No plainer: named by `using`, the law does not prove this, since it speaks of an output that the goal does not name.
+use Rattle.std.proofs.Common.{rules}
+use Rattle.library.proofs.Writings.{parts_more}
 use Rattle.library.proofs.put_kinds.Goals as goal
 
-pub loop-entry-init : goal.loop-entry-init
-loop-entry-init c = search writings
-
 pub loop-entry-preserved : goal.loop-entry-preserved
-loop-entry-preserved c = search writings
-
-pub returns : goal.returns
-returns c = search writings
+loop-entry-preserved c = search (parts_more, rules)
