@@ -130,7 +130,7 @@ impl Filter {
         }
     }
 
-    // The filter of a type with these fields. Those behind the type's last do not count.
+    // The filter of a type with these fields. Those behind the type's last do not count. By the type's own cases: each has other fields.
     pub fn of_fields(filter: FilterType, v: [f32; 8]) -> Filter
         ensures { result ≡ filter_from filter v }
     {
@@ -145,7 +145,8 @@ impl Filter {
     }
 
     // Clears what the filter retains of past samples: the type's own reset; of the DC blocker, which has none, x and y become 0; of the
-    // modified filter, whose reset leaves the last sample, x becomes 0 too.
+    // modified filter, whose reset leaves the last sample, x becomes 0 too. A match and not a dyn filter: that would want a heap, and a mark
+    // could not keep it as a value.
     pub fn rest(&mut self)
         ensures { self.new ≡ rested self.old }
     {

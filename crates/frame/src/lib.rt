@@ -17,7 +17,7 @@ use library::Library;
 use runs::RunForm;
 use std::array;
 
-#[derive(Drop)]
+#[derive(Clone, Drop)]
 pub struct Frame {
     pub heads: [Head; 12],
     pub library: Library,

@@ -27,7 +27,7 @@ pub struct Snapshot {
     pub count: u32,
 }
 
-#[derive(Drop)]
+#[derive(Clone, Drop)]
 pub struct Head {
     pub now: Snapshot,
     pub marks: ArrayVec<Snapshot, 4>,
@@ -99,10 +99,7 @@ impl Head {
         ensures { result ≡ empty_head }
     {
         Head {
-            now: Snapshot {
-                filter: None,
-                count: 0,
-            },
+            now: Snapshot::default(),
             marks: ArrayVec::new(),
         }
     }

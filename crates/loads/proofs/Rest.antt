@@ -1,9 +1,9 @@
 -- Every setter leaves a new filter at rest. Assumes nothing.
 use Prim.Native.Nat.{ℕ}
 use mathlib.Core.Path.{◌≡◌, refl}
-use mathlib.Core.Bool.{Bool, true, false, cond}
 use Rattle.std.specs.Prelude.{unwrap_or}
 use lib.Dec.{eqb}
+use Rattle.std.proofs.lemmas.Bool.{cond_both}
 use lib.Ieee.{Float}
 use Rattle.filter_core.specs.Arithmetic.{word}
 use Rattle.filter_core.specs.Refusal.{frequency_refusal, unless_refused}
@@ -24,11 +24,7 @@ Still f = rested f ≡ f
 
 -- whether its number refuses it or not
 set_still : {S : Type 0} (of : S → Filter) (n : ℕ) (new set : S) → Still (of new) → Still (of set) → Still (of (unless_refused n new set))
-set_still of n new set p q = go (eqb n 0)
-  where
-    go : (b : Bool) → Still (of (cond b set new))
-    go true = q
-    go false = p
+set_still of n new set p q = cond_both (eqb n 0) set new (λ s. Still (of s)) (λ e. q) (λ e. p)
 
 still : (s : Setter) (a b c : Float) → Still (filter_for s a b c)
 unfolding filter_for

@@ -4,7 +4,7 @@ use Rattle.std.specs.Prelude.{Some}
 use mathlib.Core.Path.{◌≡◌, refl, sym, ap, ◌∙◌}
 use Rattle.filter_core.specs.Arithmetic.{word}
 use Rattle.filter_core.specs.Refusal.{frequency_refusal, unless_refused}
-use Rattle.filter_core.proofs.Refusals.{goes}
+use borrow.Author.Tests.{eq-eqb}
 use Rattle.any_filter.specs.declared.Filter.TheVariants as type
 use Rattle.any_filter.specs.declared.Filter.{Filter}
 use Rattle.sheets.specs.Kind.{setter_of}
@@ -17,7 +17,7 @@ use Rattle.loads.specs.Set.{LoadsAreSet}
 
 -- a setter whose number is 0 sets
 accepted : {S : Type 0} (of : S → Filter) {n : ℕ} (new set : S) → n ≡ 0 → of (unless_refused n new set) ≡ of set
-accepted of new set z = ap of (sym (goes new set refl z refl))
+accepted of {n} new set z = rw (eq-eqb n 0 z) refl
 
 pub loads_are_set : LoadsAreSet
 unfolding filter_for

@@ -1,7 +1,7 @@
 -- What a run leaves of a filter of any type, from what it leaves of its own type's. Assumes nothing.
 use Prim.Native.Nat.{ℕ}
 use mathlib.Core.Path.{◌≡◌, refl}
-use mathlib.Core.Bool.{Bool, true, false, cond}
+use mathlib.Core.Bool.{true, false, cond}
 use mathlib.Core.List.{List}
 use lib.Dec.{eqb}
 use lib.Ieee.{Float}
@@ -14,11 +14,7 @@ use Rattle.runs.specs.Run.{machine_of, RanBy, Ran, RanTwoBy, RanTwo, through, fi
 use Rattle.runs.specs.declared.form.RunForm.{RunForm}
 
 carried : {S : Type 0} (of : S → Filter) (n : ℕ) (a b : S) {t : S} → t ≡ unless_refused n a b → of t ≡ unless_refused n (of a) (of b)
-carried of n a b e = rw e (go (eqb n 0))
-  where
-    go : (c : Bool) → of (cond c b a) ≡ cond c (of b) (of a)
-    go true = refl
-    go false = refl
+carried of n a b e = rw e (elim (eqb n 0) as (λ c. of (cond c b a) ≡ cond c (of b) (of a)) [ true ↦ refl | false ↦ refl ])
 
 -- a filter is what its machine makes of what it starts from
 starts : (f : Filter) (form : RunForm) → (machine_of f form).filter (machine_of f form).start ≡ f

@@ -1,6 +1,4 @@
 // Runs with one output. Each type takes the forms that it has, and refuses any other. The form, the input and the output are 01's run.
-// Four types have the plain form alone, with a function of three lines each: one for the four would be told what a plain form is, and be
-// no shorter.
 
 ghost use Rattle.std.specs.Prelude.{◌≡◌};
 ghost use Rattle.filter_core.specs.Buffer.{within};
@@ -8,18 +6,17 @@ ghost use Rattle.filter_core.specs.Refusal.{number_in};
 ghost use Rattle.any_filter.specs.Cases.{type_of};
 ghost use Rattle.any_filter.specs.declared.FilterType.TheVariants as type;
 ghost use Rattle.runs.specs.Form.{run_refusal};
-ghost use Rattle.runs.specs.Run.{dc_form, one_pole_form, svf_form, naive_form, modified_form, crossover_form, RanBy, Ran};
+ghost use Rattle.runs.specs.Run.{dc_form, only_plain, throughout, svf_form, naive_form, RanBy, Ran};
 
 use crate::RunForm;
 use any_filter::{Filter, Passes};
 use crossover_svf::CrossoverSvf;
 use dc_blocker::{Blocking, DcBlocker};
-use filter_core::{Refusal, filter_each};
-use modified_svf::ModifiedSvf;
+use filter_core::{FilterMode, Form, Refusal, filter_each};
 use naive_svf::NaiveSvf;
-use one_pole::OnePole;
 use svf::Svf;
 
+// No plainer in `run_plain`: a DC blocker's form is no mode.
 fn run_dc(
     f: &mut DcBlocker,
     form: RunForm,
@@ -36,14 +33,12 @@ fn run_dc(
     Ok(())
 }
 
-fn run_one_pole(
-    f: &mut OnePole,
-    form: RunForm,
-    input: &[f32],
-    output: &mut [f32],
-) -> Result<(), Refusal>
+// A filter that has the plain form alone, by its mode: each is refused what a `OnePole` is.
+fn run_plain<S>(f: &mut S, form: RunForm, input: &[f32], output: &mut [f32]) -> Result<(), Refusal>
+where
+    FilterMode: Form<S>,
     ensures refusal { number_in result ≡ run_refusal type.OnePole form }
-    ensures ran { RanBy (run_refusal type.OnePole form) (one_pole_form form) f.old (within input.now output.old) output.old f.new output.new }
+    ensures ran { RanBy (run_refusal type.OnePole form) (only_plain (λ mode. throughout (bound-1.next mode) (bound-1.out mode)) form) f.old (within input.now output.old) output.old f.new output.new }
 {
     let RunForm::Plain(mode) = form else {
         return Err(Refusal::Form);
@@ -52,6 +47,7 @@ fn run_one_pole(
     Ok(())
 }
 
+// By the form's own cases, each with what its call takes.
 fn run_svf(f: &mut Svf, form: RunForm, input: &[f32], output: &mut [f32]) -> Result<(), Refusal>
     ensures refusal { number_in result ≡ run_refusal type.Svf form }
     ensures ran { RanBy (run_refusal type.Svf form) (svf_form form) f.old (within input.now output.old) output.old f.new output.new }
@@ -66,6 +62,7 @@ fn run_svf(f: &mut Svf, form: RunForm, input: &[f32], output: &mut [f32]) -> Res
     Ok(())
 }
 
+// By the form's own cases, as above.
 fn run_naive(
     f: &mut NaiveSvf,
     form: RunForm,
@@ -83,40 +80,8 @@ fn run_naive(
     Ok(())
 }
 
-fn run_modified(
-    f: &mut ModifiedSvf,
-    form: RunForm,
-    input: &[f32],
-    output: &mut [f32],
-) -> Result<(), Refusal>
-    ensures refusal { number_in result ≡ run_refusal type.ModifiedSvf form }
-    ensures ran { RanBy (run_refusal type.ModifiedSvf form) (modified_form form) f.old (within input.now output.old) output.old f.new output.new }
-{
-    let RunForm::Plain(mode) = form else {
-        return Err(Refusal::Form);
-    };
-    f.process(input, output, mode);
-    Ok(())
-}
-
-fn run_crossover(
-    f: &mut CrossoverSvf,
-    form: RunForm,
-    input: &[f32],
-    output: &mut [f32],
-) -> Result<(), Refusal>
-    ensures refusal { number_in result ≡ run_refusal type.CrossoverSvf form }
-    ensures ran { RanBy (run_refusal type.CrossoverSvf form) (crossover_form form) f.old (within input.now output.old) output.old f.new output.new }
-{
-    let RunForm::Plain(mode) = form else {
-        return Err(Refusal::Form);
-    };
-    f.process(input, output, mode);
-    Ok(())
-}
-
-// Runs the form, or refuses it and changes nothing.
-#[tactic(auto, unfolding(crate::specs::Run::through, crate::specs::Run::first_output))]
+// Runs the form, or refuses it and changes nothing. By the filter's own cases, each with its loop: through a dyn filter no loop would know its
+// filter, and each sample would cost a call.
 pub fn run(
     filter: &mut Filter,
     form: RunForm,
@@ -128,13 +93,13 @@ pub fn run(
 {
     match filter {
         Filter::DcBlocker(f) => run_dc(f, form, input, output),
-        Filter::OnePole(f) => run_one_pole(f, form, input, output),
+        Filter::OnePole(f) => run_plain(f, form, input, output),
         Filter::Svf(f) => run_svf(f, form, input, output),
         Filter::NaiveSvf(f) => run_naive(f, form, input, output),
-        Filter::ModifiedSvf(f) => run_modified(f, form, input, output),
+        Filter::ModifiedSvf(f) => run_plain(f, form, input, output),
         Filter::CrossoverSvf(passes) => {
             let mut f = CrossoverSvf::from(*passes);
-            let ran = run_crossover(&mut f, form, input, output);
+            let ran = run_plain(&mut f, form, input, output);
             *passes = Passes::from(f);
             ran
         }

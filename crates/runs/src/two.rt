@@ -60,8 +60,7 @@ fn run_two_naive(
     Ok(())
 }
 
-// Runs the form, or refuses it and changes nothing.
-#[tactic(auto, unfolding(crate::specs::Run::through, crate::specs::Run::first_output, crate::specs::Run::second_output))]
+// Runs the form, or refuses it and changes nothing. By the filter's own cases, as with one output.
 pub fn run_two(
     filter: &mut Filter,
     form: RunForm,
