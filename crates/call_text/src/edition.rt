@@ -5,6 +5,7 @@ ghost use Rattle.call_text.specs.Edition.{edition_of};
 
 use sheets::Edition;
 
+// A match over the text of a line, which names the edition.
 pub(crate) fn edition_of(s: &[u8]) -> Option<Edition>
     ensures { result ≡ edition_of s.now }
 {

@@ -24,6 +24,7 @@ pub enum Keyword {
     Count,
 }
 
+// A match over the text of a line, whose first word names the call.
 pub fn keyword_of(s: &[u8]) -> Option<Keyword>
     ensures { result ≡ keyword_of s.now }
 {

@@ -3,6 +3,7 @@
 ghost use Rattle.std.specs.Prelude.{◌≡◌};
 ghost use Rattle.digits.specs.Decimal.{digit_of, number_of};
 
+// A match over a byte of text, which may be no digit.
 fn digit(b: u8) -> Option<usize>
     ensures { result ≡ digit_of b }
 {
@@ -12,6 +13,7 @@ fn digit(b: u8) -> Option<usize>
     }
 }
 
+#[tactic(auto, using(crate::proofs::Reading::large, crate::proofs::Reading::read_more, crate::proofs::Reading::read_all, std::proofs::lemmas::Grind::common_steps))]
 pub fn number_of(s: &[u8]) -> Option<usize>
     ensures { result ≡ number_of s.now }
 {

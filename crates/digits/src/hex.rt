@@ -8,6 +8,7 @@ ghost use Rattle.digits.specs.Hex.{hex_digit, all_hex, pair_of, byte_from, hex_w
 use crate::unit::Unit;
 use arrayvec::ArrayVec;
 
+// A match over a byte of text, which may be no digit.
 fn digit(b: u8) -> Option<u8>
     ensures { result ≡ hex_digit b }
 {
@@ -61,6 +62,7 @@ pub fn sample(s: &[u8], at: usize) -> f32
 }
 
 // The units of the text, put behind what `out` holds as far as there is room.
+#[tactic(auto, using(crate::proofs::Putting::table_room, lists::proofs::Tables::table_none, lists::proofs::Tables::table_more, lists::proofs::Tables::length_table, std::proofs::lemmas::Grind::common_steps))]
 pub fn units<T: Unit, const N: usize>(s: &[u8], out: &mut ArrayVec<T, N>)
     ensures { out.new.items ≡ take N (out.old.items ++ units_of T.DIGITS T.read_at s.now) }
 {

@@ -47,6 +47,7 @@ pub fn put<const N: usize>(text: &mut ArrayVec<u8, N>, bytes: &[u8])
 }
 
 // Units, one after the other; `-` for none.
+#[tactic(auto, using(crate::proofs::Putting::again, std::proofs::lemmas::List::take_more, std::proofs::lemmas::List::flat_map_more, std::proofs::lemmas::Grind::common_steps))]
 pub fn put_units<T: Unit, const N: usize>(out: &mut ArrayVec<u8, N>, units: &[T])
     ensures { out.new.items ≡ take N (out.old.items ++ units_text T.text units.now) }
 {

@@ -1,6 +1,6 @@
 -- A text cut at its first separator. Assumes nothing.
 use Prim.Native.Nat.{ℕ, suc, ◌+◌, ◌-◌, ◌≤◌}
-use mathlib.Core.Path.{◌≡◌, refl, ◌∙◌}
+use mathlib.Core.Path.{◌≡◌, refl}
 use mathlib.Core.Bool.{Bool, true, false, cond}
 use mathlib.Core.List.{List, [], ◌∷◌}
 use native.Mathlib.Omega.{arith}
@@ -44,18 +44,12 @@ module _ (b : ℕ) where
     cut_nowhere e = let c : Cut 0 s None = rw (← e) at (cut 0 s) in c
 
   -- there is at least one field
-  pub some_field : (s : List ℕ) → (f : List ℕ) × (fs : List (List ℕ)) × (fields_of b s ≡ f ∷ fs)
-  unfolding fields_of
-  some_field [] = ([], [], refl)
-  some_field (x ∷ s) = go (eqb x b) refl (some_field s)
+  some_field : (s : List ℕ) → (f : List ℕ) × (fs : List (List ℕ)) × (fields_of b s ≡ f ∷ fs)
+  some_field s = go (position_from (λ x. eqb x b) 0 s) (cut 0 s)
     where
-      go : (t : Bool) → eqb x b ≡ t → (f : List ℕ) × (fs : List (List ℕ)) × (fields_of b s ≡ f ∷ fs) → (f : List ℕ) × (fs : List (List ℕ)) × (fields_of b (x ∷ s) ≡ f ∷ fs)
-      go true e h = ([], fields_of b s, rw e refl)
-      go false e (f, fs, q) = (x ∷ f, fs, rw (e, q) refl)
+      go : (r : Option ℕ) → Cut 0 s r → (f : List ℕ) × (fs : List (List ℕ)) × (fields_of b s ≡ f ∷ fs)
+      go None c = (s, [], c)
+      go (Some k) c = (take (k - 0) s, fields_of b (drop (suc (k - 0)) s), c.1)
 
-module _ (f : Fields) (s : Bor (List ℕ)) (e : f.rest ≡ Some s) where
-  pub left_is : fields_left f ≡ fields_of f.separator s.now
-  left_is = rw e refl
-
-  pub some_left : (field : List ℕ) × (fields : List (List ℕ)) × (fields_left f ≡ field ∷ fields)
-  some_left = let (field, fields, q) = some_field f.separator s.now in (field, fields, left_is ∙ q)
+pub some_left : (f : Fields) (s : Bor (List ℕ)) → f.rest ≡ Some s → (field : List ℕ) × (fields : List (List ℕ)) × (fields_left f ≡ field ∷ fields)
+some_left f s e = rw e (some_field f.separator s.now)

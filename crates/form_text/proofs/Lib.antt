@@ -1,2 +1,1 @@
 pub mod Cuts
-pub mod Spelled

@@ -21,10 +21,12 @@ impl<'a> Fields<'a> {
     }
 
     // The next field, if there is one. No Iterator's: this one says what is left, by which `end` and each form are stated.
+    #[tactic(auto, using(crate::proofs::Cuts::cut_at, crate::proofs::Cuts::cut_nowhere, std::proofs::lemmas::Grind::common_steps))]
     pub fn next(&mut self) -> Option<&'a [u8]>
         ensures { MatchOption result (fields_left self.old ≡ []) (λ f. fields_left self.old ≡ f.now ∷ fields_left self.new) }
     {
         let rest = self.rest?;
+        // The text comes from outside: it may have no separator.
         match scan::find(rest, 0, self.separator) {
             Some(end) => {
                 self.rest = Some(&rest[end + 1..]);
@@ -41,6 +43,7 @@ impl<'a> Fields<'a> {
     pub fn end(&self) -> Option<()>
         ensures { MatchOption result ((f : List ℕ) × (fs : List (List ℕ)) × (fields_left self.now ≡ f ∷ fs)) (λ _. fields_left self.now ≡ []) }
     {
+        // The text comes from outside: fields may be left.
         match self.rest {
             Some(_) => None,
             None => Some(()),

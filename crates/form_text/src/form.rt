@@ -9,6 +9,7 @@ use digits::number_of;
 use filter_core::FilterMode;
 use runs::RunForm;
 
+// A match over the text of a line, which names the mode.
 fn mode_of(s: &[u8]) -> Option<FilterMode>
     ensures { result ≡ mode_of s.now }
 {
@@ -102,6 +103,7 @@ fn split_form(fields: Fields<'_>) -> Option<RunForm>
     Some(RunForm::Split)
 }
 
+// A match over the text of a line, whose name says what its fields are.
 fn form_for(name: &[u8], fields: Fields<'_>) -> Option<RunForm>
     ensures { result ≡ form_for name.now (fields_left fields.entry) }
 {
