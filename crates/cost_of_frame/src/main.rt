@@ -7,14 +7,14 @@
 
 #![tactic(auto)]
 
-ghost use Rattle.std.specs.Prelude.{◌<◌};
-
 use any_filter::Filter;
+use arrayvec::ArrayVec;
 use filters::{FilterMode, FrequencyApproximation, Svf};
 use frame::Frame;
 use runs::RunForm;
 use std::io;
 use std::io::{Read, Write};
+use std::num::NonZeroUsize;
 use std::time::{CpuClock, Duration};
 
 // Where the mode, the sheet and two words of its entry stand, where the samples begin, how many they are, and where they end.
@@ -35,12 +35,17 @@ const END: usize = SAMPLES + 4 * COUNT;
 // Bytes of an answer: the time, the numbers and the outputs, a word each.
 const ANSWER: usize = 4 * (1 + 8 + COUNT);
 
+// The side that is run: the filter by itself, all samples in one call, or through a head of the frame, in runs of a length.
+#[derive(Drop)]
+enum Side {
+    Alone(Svf),
+    Framed { frame: Frame, length: NonZeroUsize },
+}
+
 #[derive(Drop)]
 struct Task {
-    frame: Frame,
-    filter: Svf,
+    side: Side,
     mode: FilterMode,
-    length: usize,
 }
 
 fn main(rt: HostRuntime) {
@@ -55,7 +60,8 @@ fn main(rt: HostRuntime) {
     samples(&sent, &mut input);
     let mut out = [0.0f32; COUNT];
     let mut task = task_of(&sent);
-    serve(rt, &mut task, &input, &mut out);
+    // It ends where no turn comes, or where an answer cannot be written.
+    let _ = serve(rt, &mut task, &input, &mut out);
 }
 
 fn float_at(sent: &[u8], at: usize) -> f32 {
@@ -63,21 +69,31 @@ fn float_at(sent: &[u8], at: usize) -> f32 {
 }
 
 // What is sent is a sheet, and a frequency and a mode that there are: the benchmark sends no other.
-fn task_of(sent: &[u8; END]) -> Task {
-    let whole = &sent[..];
+fn framed(sent: &[u8; END], length: NonZeroUsize) -> Side {
     let mut frame = Frame::fresh();
-    let _ = frame.open(&whole[SHEET..SAMPLES]);
+    let _ = frame.open(&sent[SHEET..SAMPLES]);
+    Side::Framed { frame, length }
+}
+
+fn alone(sent: &[u8; END]) -> Side {
     let mut filter = Svf::new();
     let _ = filter.set_f_q(
-        float_at(whole, FREQUENCY),
-        float_at(whole, RESONANCE),
+        float_at(sent, FREQUENCY),
+        float_at(sent, RESONANCE),
         FrequencyApproximation::Exact,
     );
+    Side::Alone(filter)
+}
+
+// The length of a run is 0 where there is no head.
+fn task_of(sent: &[u8; END]) -> Task {
+    let side = match NonZeroUsize::new(words::word_at(sent, 0) as usize) {
+        Some(length) => framed(sent, length),
+        None => alone(sent),
+    };
     Task {
-        frame,
-        filter,
-        mode: FilterMode::try_from(words::word_at(whole, MODE)).unwrap_or(FilterMode::HighPass),
-        length: words::word_at(whole, 0) as usize,
+        side,
+        mode: FilterMode::try_from(words::word_at(sent, MODE)).unwrap_or(FilterMode::HighPass),
     }
 }
 
@@ -89,64 +105,70 @@ fn samples(sent: &[u8], input: &mut [f32]) {
 }
 
 // A proved loop has to end, and nothing says that the turns do. So the loop has a number of turns that nothing uses up.
-fn serve(rt: HostRuntime, task: &mut Task, input: &[f32], out: &mut [f32]) {
+fn serve(rt: HostRuntime, task: &mut Task, input: &[f32], out: &mut [f32]) -> io::Result<()> {
     let mut turn = [0u8; 1];
     for _ in 0..u64::MAX {
-        if rt.stdin().read_exact(&mut turn).is_err() {
-            return;
-        }
-        // The turn 1 has the outputs cleared.
+        rt.stdin().read_exact(&mut turn)?;
+        // The turn 1 has the outputs cleared. The byte is compared as it comes in.
         if turn[0] == 1 {
             out.fill(0.0);
         }
-        take_turn(rt, task, input, out);
+        take_turn(rt, task, input, out)?;
+    }
+    Ok(())
+}
+
+// No plainer with the input and the output as one: two parameters, of which one is lent to be changed.
+fn take_turn(rt: HostRuntime, task: &mut Task, input: &[f32], out: &mut [f32]) -> io::Result<()> {
+    match &mut task.side {
+        Side::Alone(filter) => run_alone(rt, *filter, task.mode, input, out),
+        Side::Framed { frame, length } => run_framed(rt, frame, task.mode, *length, input, out),
     }
 }
 
-fn take_turn(rt: HostRuntime, task: &mut Task, input: &[f32], out: &mut [f32]) {
-    if task.length == 0 {
-        alone(rt, task.filter, task.mode, input, out);
-    } else {
-        in_frame(rt, &mut task.frame, task.mode, task.length, input, out);
-    }
-}
-
-fn alone(rt: HostRuntime, mut filter: Svf, mode: FilterMode, input: &[f32], out: &mut [f32]) {
+fn run_alone(
+    rt: HostRuntime,
+    mut filter: Svf,
+    mode: FilterMode,
+    input: &[f32],
+    out: &mut [f32],
+) -> io::Result<()> {
     let before = microseconds(rt.process_cpu_time());
     filter.process_buffer(input, out, mode);
     let after = microseconds(rt.process_cpu_time());
     answer(
         rt,
         nanoseconds(before, after),
-        Filter::Svf(filter).fields(),
+        &Filter::Svf(filter).fields(),
         out,
-    );
+    )
 }
 
-fn in_frame(
+fn run_framed(
     rt: HostRuntime,
     frame: &mut Frame,
     mode: FilterMode,
-    length: usize,
+    length: NonZeroUsize,
     input: &[f32],
     out: &mut [f32],
-)
-    requires { 0 < length }
-{
+) -> io::Result<()> {
     let _ = frame.load(0, 0);
     let before = microseconds(rt.process_cpu_time());
     run_all(frame, mode, length, input, out);
     let after = microseconds(rt.process_cpu_time());
-    answer(rt, nanoseconds(before, after), fields(frame), out);
+    answer(rt, nanoseconds(before, after), &fields(frame), out)
 }
 
-fn run_all(frame: &mut Frame, mode: FilterMode, length: usize, input: &[f32], out: &mut [f32])
-    requires { 0 < length }
-{
-    let n = input.len().min(out.len());
-    for at in (0..n).step_by(length) {
-        let end = n.min(at.saturating_add(length));
-        let _ = frame.run(0, RunForm::Plain(mode), &input[at..end], &mut out[at..end]);
+fn run_all(
+    frame: &mut Frame,
+    mode: FilterMode,
+    length: NonZeroUsize,
+    input: &[f32],
+    out: &mut [f32],
+) {
+    let length = length.get();
+    for (lent, part) in input.chunks(length).zip(out.chunks_mut(length)) {
+        let _ = frame.run(0, RunForm::Plain(mode), lent, part);
     }
 }
 
@@ -171,28 +193,24 @@ fn nanoseconds(before: u64, after: u64) -> u32 {
     }
 }
 
-fn answer(rt: HostRuntime, time: u32, numbers: [f32; 8], out: &[f32]) {
-    let mut text = [0u8; ANSWER];
-    let a = lists::put(&time.to_le_bytes(), &mut text, 0);
-    let b = put_words(&numbers, &mut text, a);
-    put_words(out, &mut text, b);
-    let _ = rt.stdout().write_all(&text);
+fn answer(rt: HostRuntime, time: u32, numbers: &[f32; 8], out: &[f32]) -> io::Result<()> {
+    let mut text = ArrayVec::<u8, ANSWER>::new();
+    text.write_all(&time.to_le_bytes())?;
+    put_words(&mut text, numbers)?;
+    put_words(&mut text, out)?;
+    rt.stdout().write_all(text.as_slice())
 }
 
 fn fields(frame: &Frame) -> [f32; 8] {
-    match frame.show(0) {
-        Ok(head) => match &head.now.filter {
-            Some(filter) => filter.fields(),
-            None => [0.0; 8],
-        },
-        Err(_) => [0.0; 8],
-    }
+    let Ok(head) = frame.show(0) else {
+        return [0.0; 8];
+    };
+    head.now.filter.map_or([0.0; 8], |filter| filter.fields())
 }
 
-fn put_words(from: &[f32], text: &mut [u8], at: usize) -> usize {
-    let mut to = at;
+fn put_words(text: &mut ArrayVec<u8, ANSWER>, from: &[f32]) -> io::Result<()> {
     for &x in from {
-        to = lists::put(&words::f32_to_word(x).to_le_bytes(), text, to);
+        text.write_all(&words::f32_to_word(x).to_le_bytes())?;
     }
-    to
+    Ok(())
 }

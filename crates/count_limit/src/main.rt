@@ -7,9 +7,7 @@
 
 #![tactic(auto)]
 
-use arrayvec::ArrayVec;
-use digits::{Unit, put};
-use filter_core::{FilterMode, Refusal};
+use filter_core::{FilterMode, Refusal, number_in};
 use frame::Frame;
 use runs::RunForm;
 use std::io::{Stdout, Write};
@@ -41,8 +39,6 @@ struct Forms {
     absent: RunForm,
 }
 
-type Text = ArrayVec<u8, 120>;
-
 fn main(rt: HostRuntime) {
     let mut input = [1.0f32; BLOCK];
     input[0] = -0.5;
@@ -53,7 +49,7 @@ fn main(rt: HostRuntime) {
     let _ = trial.frame.open(&SHEET);
     let mut first = [7.0f32; BLOCK];
     let mut second = [7.0f32; BLOCK];
-    trial.print(b"An Svf, by strides of a whole run.\n");
+    trial.print("An Svf, by strides of a whole run.");
     trial.try_limit(
         0,
         Forms {
@@ -69,7 +65,7 @@ fn main(rt: HostRuntime) {
         &mut second,
     );
     trial.begin_anew();
-    trial.print(b"A naive filter, by decimation.\n");
+    trial.print("A naive filter, by decimation.");
     trial.try_limit(
         1,
         Forms {
@@ -86,29 +82,11 @@ fn main(rt: HostRuntime) {
     );
 }
 
-// ---- text
+// ---- buffers
 
-fn put_named(text: &mut Text, name: &[u8], n: usize) {
-    put(text, name);
-    let mut decimal = [0u8; 20];
-    let k = io::decimal(n as u64, &mut decimal);
-    put(text, &decimal[..k]);
-}
-
-fn put_output(text: &mut Text, output: f32) {
-    put(text, b", output ");
-    put(text, output.text().as_slice());
-}
-
-fn number_of<T: Copy>(answer: Result<T, Refusal>) -> u8 {
-    match answer {
-        Ok(_) => 0,
-        Err(refusal) => refusal.into(),
-    }
-}
-
-fn first_of(output: &[f32]) -> f32 {
-    output.first().copied().unwrap_or(0.0)
+// The first place of an output, as a word.
+fn first_of(output: &[f32]) -> u32 {
+    words::f32_to_word(output.first().copied().unwrap_or(0.0))
 }
 
 fn lend(output: &mut [f32]) {
@@ -130,7 +108,7 @@ struct Trial {
 
 // How many of the runs of 0 to 200 samples, each from a mark that has 100 left, were refused with 18 where they have more, and how many of
 // the others accepted.
-#[derive(Clone, Copy)]
+#[derive(Clone, Copy, Default)]
 struct Tried {
     refused: usize,
     accepted: usize,
@@ -148,9 +126,10 @@ impl Tried {
     }
 }
 
+// No plainer with the input and the outputs as one: the calls take them as parameters, and two of them are lent to be changed.
 impl Trial {
-    fn print(&mut self, text: &[u8]) {
-        let _ = self.to.write_all(text);
+    fn print(&mut self, heading: &str) {
+        let _ = writeln!(self.to, "{heading}");
     }
 
     // A fresh frame with the sheet open.
@@ -161,35 +140,29 @@ impl Trial {
 
     // ---- a line
 
-    fn put_call(&self, text: &mut Text, name: &[u8], n: usize, number: u8) {
-        put_named(text, name, n);
-        put_named(text, b": ", usize::from(number));
-        let count = self.frame.count(HEAD).unwrap_or(0);
-        put_named(text, b", count ", count as usize);
-    }
-
-    fn print_line(&mut self, mut text: Text) {
-        put(&mut text, b"\n");
-        self.print(text.as_slice());
+    fn count(&self) -> u32 {
+        self.frame.count(HEAD).unwrap_or(0)
     }
 
     // What is said of a call that is called `name`.
-    fn say(&mut self, name: &[u8], n: usize, number: u8) {
-        let mut text = Text::new();
-        self.put_call(&mut text, name, n, number);
-        self.print_line(text);
+    fn say(&mut self, name: &str, n: usize, number: u8) {
+        let count = self.count();
+        let _ = writeln!(self.to, "{name}{n}: {number}, count {count}");
     }
 
     // ---- calls, each with its line
 
-    fn run(&mut self, name: &[u8], form: RunForm, n: usize, input: &[f32], output: &mut [f32]) {
+    fn run(&mut self, name: &str, form: RunForm, n: usize, input: &[f32], output: &mut [f32]) {
         let lent = front(n, input);
         lend(output);
-        let answer = self.frame.run(HEAD, form, lent, output);
-        let mut text = Text::new();
-        self.put_call(&mut text, name, lent.len(), number_of(answer));
-        put_output(&mut text, first_of(output));
-        self.print_line(text);
+        let number = number_in(self.frame.run(HEAD, form, lent, output));
+        let n = lent.len();
+        let count = self.count();
+        let x = first_of(output);
+        let _ = writeln!(
+            self.to,
+            "{name}{n}: {number}, count {count}, output {x:08x}",
+        );
     }
 
     fn run_two(
@@ -203,27 +176,25 @@ impl Trial {
         let lent = front(n, input);
         lend(first);
         lend(second);
-        let answer = self.frame.run_two(HEAD, form, lent, first, second);
-        let mut text = Text::new();
-        self.put_call(
-            &mut text,
-            b"two outputs, samples ",
-            lent.len(),
-            number_of(answer),
+        let number = number_in(self.frame.run_two(HEAD, form, lent, first, second));
+        let n = lent.len();
+        let count = self.count();
+        let x = first_of(first);
+        let y = first_of(second);
+        let _ = writeln!(
+            self.to,
+            "two outputs, samples {n}: {number}, count {count}, output {x:08x}, output {y:08x}",
         );
-        put_output(&mut text, first_of(first));
-        put_output(&mut text, first_of(second));
-        self.print_line(text);
     }
 
     fn mark(&mut self) {
         let answer = self.frame.mark(HEAD);
-        self.say(b"mark ", answer.unwrap_or(0), number_of(answer));
+        self.say("mark ", answer.unwrap_or(0), number_in(answer));
     }
 
     fn back(&mut self, m: usize) {
         let answer = self.frame.back(HEAD, m);
-        self.say(b"back to mark ", m, number_of(answer));
+        self.say("back to mark ", m, number_in(answer));
     }
 
     // ---- the way to the limit
@@ -235,17 +206,14 @@ impl Trial {
     }
 
     fn each_length(&mut self, form: RunForm, input: &[f32], output: &mut [f32]) {
-        let mut tried = Tried {
-            refused: 0,
-            accepted: 0,
-        };
+        let mut tried = Tried::default();
         for n in 0..201 {
             let lent = front(n, input);
             tried.count(lent.len(), self.frame.run(HEAD, form, lent, output));
             let _ = self.frame.back(HEAD, 0);
         }
-        self.say(b"up to 100 samples, accepted ", tried.accepted, 0);
-        self.say(b"above 100 samples, refused ", tried.refused, 18);
+        self.say("up to 100 samples, accepted ", tried.accepted, 0);
+        self.say("above 100 samples, refused ", tried.refused, 18);
     }
 
     // To one sample short of the limit, with a mark there, and one with 100 samples left.
@@ -258,11 +226,11 @@ impl Trial {
     ) {
         let _ = self.frame.load(HEAD, entry);
         self.blocks(forms.way, input, output);
-        self.run(b"stepped, samples ", forms.stepped, LAST, input, output);
+        self.run("stepped, samples ", forms.stepped, LAST, input, output);
         self.mark();
         self.each_length(forms.stepped, input, output);
         self.each_length(forms.plain, input, output);
-        self.run(b"stepped, samples ", forms.stepped, 99, input, output);
+        self.run("stepped, samples ", forms.stepped, 99, input, output);
         self.mark();
     }
 
@@ -274,11 +242,11 @@ impl Trial {
         first: &mut [f32; BLOCK],
         second: &mut [f32; BLOCK],
     ) {
-        self.run(b"stepped, samples ", forms.stepped, 2, input, first);
+        self.run("stepped, samples ", forms.stepped, 2, input, first);
         self.run_two(forms.two, 2, input, first, second);
-        self.run(b"a step of 0, samples ", forms.no_step, 2, input, first);
+        self.run("a step of 0, samples ", forms.no_step, 2, input, first);
         self.run(
-            b"another type's form, samples ",
+            "another type's form, samples ",
             forms.absent,
             2,
             input,
@@ -289,7 +257,7 @@ impl Trial {
     // The last sample, one more, and none.
     fn reach(&mut self, stepped: RunForm, input: &[f32; BLOCK], output: &mut [f32; BLOCK]) {
         for n in [1, 1, 0] {
-            self.run(b"stepped, samples ", stepped, n, input, output);
+            self.run("stepped, samples ", stepped, n, input, output);
         }
     }
 
@@ -304,14 +272,14 @@ impl Trial {
         self.back(1);
         self.run_two(forms.two, 1, input, first, second);
         self.back(1);
-        self.run(b"stepped, samples ", forms.stepped, 1, input, first);
+        self.run("stepped, samples ", forms.stepped, 1, input, first);
     }
 
     fn rest_and_load(&mut self, entry: usize) {
         let rested = self.frame.rest(HEAD);
-        self.say(b"rest of head ", HEAD, number_of(rested));
+        self.say("rest of head ", HEAD, number_in(rested));
         let loaded = self.frame.load(HEAD, entry);
-        self.say(b"load of entry ", entry, number_of(loaded));
+        self.say("load of entry ", entry, number_in(loaded));
     }
 
     fn try_limit(

@@ -8,7 +8,7 @@
 
 #![tactic(auto)]
 
-use calls::{Call, Lengths};
+use calls::Call;
 use std::io::{Read, Result};
 
 mod calls;
@@ -26,32 +26,27 @@ fn call_of(w: &[u32; 68]) -> Call {
     }
 }
 
-fn lengths(w: &[u32; 68]) -> Lengths {
-    Lengths {
-        input: w[8] as usize,
-        out_1: w[9] as usize,
-        out_2: w[10] as usize,
-    }
-}
-
-// Calls the method with what the record says: the state and the outputs become what the call leaves.
+// Calls the method with what the record says: the state and the outputs become what the call leaves. A buffer form is lent as much of each
+// buffer as the record says, and there is no call where that is more than the buffer has. No plainer with the buffers as one: the calls take
+// them as parameters.
 fn answer(
     w: &[u32; 68],
     state: &mut [f32; 8],
     input: &[f32; 8],
     out_1: &mut [f32; 8],
     out_2: &mut [f32; 8],
-) -> u8 {
+) -> Option<u8> {
     let call = call_of(w);
-    if 100 <= call.method {
-        return calls::buffers(call, lengths(w), state, input, out_1, out_2);
+    if call.method < 100 {
+        return calls::sample(call, state, input, &mut out_1[0], &mut out_2[0]);
     }
-    let mut y = out_1[0];
-    let mut z = out_2[0];
-    let number = calls::sample(call, state, input, &mut y, &mut z);
-    out_1[0] = y;
-    out_2[0] = z;
-    number
+    calls::buffers(
+        call,
+        state,
+        input.get(..w[8] as usize)?,
+        out_1.get_mut(..w[9] as usize)?,
+        out_2.get_mut(..w[10] as usize)?,
+    )
 }
 
 fn agrees(w: &[u32; 68]) -> bool {
@@ -59,7 +54,9 @@ fn agrees(w: &[u32; 68]) -> bool {
     let input = record::eight(w, 20);
     let mut out_1 = record::eight(w, 28);
     let mut out_2 = record::eight(w, 36);
-    let number = answer(w, &mut state, &input, &mut out_1, &mut out_2);
+    let Some(number) = answer(w, &mut state, &input, &mut out_1, &mut out_2) else {
+        return false;
+    };
     w[11] == u32::from(number)
         && record::same(&state, w, 44)
         && record::same(&out_1, w, 52)
@@ -74,7 +71,7 @@ fn next_record<F: Read>(from: &mut F) -> Option<[u32; 68]> {
 }
 
 // The records that agree, by type, and those that differ.
-#[derive(Clone, Copy)]
+#[derive(Clone, Copy, Default)]
 struct Counts {
     dc_blocker: u64,
     one_pole: u64,
@@ -89,7 +86,7 @@ struct Counts {
 const MOST: u64 = 1000000;
 
 impl Counts {
-    // One more that agrees, of the type that the method belongs to.
+    // One more that agrees, of the type that the method belongs to. The number is matched as it comes in.
     fn agree(&mut self, method: u32) {
         let count = match method % 100 {
             0..=19 => &mut self.dc_blocker,
@@ -122,15 +119,7 @@ fn report<R: Print>(rt: &R, counts: Counts) -> Result<()> {
 }
 
 fn replay<R: Print, F: Read>(rt: &R, from: &mut F) -> Result<()> {
-    let mut counts = Counts {
-        dc_blocker: 0,
-        one_pole: 0,
-        svf: 0,
-        naive_svf: 0,
-        modified_svf: 0,
-        crossover_svf: 0,
-        differ: 0,
-    };
+    let mut counts = Counts::default();
     for _ in 0..MOST {
         let Some(w) = next_record(from) else {
             break;

@@ -17,7 +17,7 @@ pub(crate) fn eight(w: &[u32; 68], at: usize) -> [f32; 8] {
     array::from_fn(|i| words::word_to_f32(word_at(w, at.saturating_add(i))))
 }
 
-// Whether eight floats are the words from the place `at` on.
+// Whether eight floats are the words from the place `at` on. Word by word, since a NaN is not equal to itself.
 pub(crate) fn same(x: &[f32; 8], w: &[u32; 68], at: usize) -> bool {
     x.iter().enumerate().all(|(i, x)| words::f32_to_word(*x) == word_at(w, at.saturating_add(i)))
 }

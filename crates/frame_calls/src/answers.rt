@@ -139,7 +139,7 @@ fn bad_line(rt: HostRuntime, lines: usize, line: &[u8], why: BadLine, out: &mut 
     put_bad_line(out);
 }
 
-// `lines` is the line's number.
+// `lines` is the line's number. No plainer with the runtime and the output as one: two parameters, of which one is lent to be changed.
 pub(crate) fn answer(
     rt: HostRuntime,
     frame: &mut Frame,
@@ -147,6 +147,7 @@ pub(crate) fn answer(
     line: &[u8],
     out: &mut Output,
 ) {
+    // No such line comes here. The test stays: without it the compiler joins two functions, and the same calls take twice as long.
     if 65535 < line.len() {
         faults::long_line(rt, lines);
         put_long_line(out);

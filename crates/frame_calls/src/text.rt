@@ -2,18 +2,13 @@
 
 use arrayvec::ArrayVec;
 use digits::put;
-use filter_core::Refusal;
+use filter_core::{Refusal, number_in};
 use form_text::Fields;
 use heads::Head;
+use std::io::Write;
 
-// The answers that wait and one more, the longest of which takes less than 32,768 bytes.
+// The answers that wait and one more, the longest of which takes less than 32,768 bytes: so no writing to it fails.
 pub(crate) type Output = ArrayVec<u8, 40960>;
-
-pub(crate) fn put_usize<const N: usize>(out: &mut ArrayVec<u8, N>, n: usize) {
-    let mut digits = [0u8; 20];
-    let k = io::decimal(n as u64, &mut digits);
-    put(out, &digits[..k]);
-}
 
 fn keyword(line: &[u8]) -> &[u8] {
     Fields::of(line, b' ').next().unwrap_or(line)
@@ -21,20 +16,15 @@ fn keyword(line: &[u8]) -> &[u8] {
 
 // A space and the refusal's number, 0 where the call is accepted.
 fn put_refusal<T: Copy>(out: &mut Output, answer: Result<T, Refusal>) {
-    let number = match answer {
-        Ok(_) => 0,
-        Err(refusal) => u8::from(refusal),
-    };
-    put(out, b" ");
-    put_usize(out, usize::from(number));
+    let number = number_in(answer);
+    let _ = write!(out, " {number}");
 }
 
 // The same, and what an accepted call hands back.
 fn put_answer(out: &mut Output, answer: Result<usize, Refusal>) {
     put_refusal(out, answer);
     if let Ok(n) = answer {
-        put(out, b" ");
-        put_usize(out, n);
+        let _ = write!(out, " {n}");
     }
 }
 

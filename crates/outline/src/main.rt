@@ -4,13 +4,14 @@
 #![tactic(auto)]
 
 use arrayvec::ArrayVec;
-use digits::put;
 use filter_core::{FilterMode, FrequencyApproximation, Refusal};
-use std::io::writer;
+use std::fmt::{Display, Formatter};
+use std::io::{Write, writer};
 use std::time::Clock;
+use std::{fmt, io, num};
 use svf::Svf;
 
-// A jagged leaf, whose last point is followed by its first.
+// A jagged leaf, whose last point is followed by its first. No plainer as points: a filter takes the coordinates of one axis.
 const LEAF_X: [f32; 16] = [
     0.0, 1.0, 2.0, 3.0, 4.0, 5.0, 6.0, 7.0, 8.0, 7.0, 6.0, 5.0, 4.0, 3.0, 2.0, 1.0,
 ];
@@ -28,24 +29,29 @@ struct Point {
     y: f32,
 }
 
+// The nearest number of thousandths.
+fn thousandths(v: f32) -> i64 {
+    num::saturating_f32_to_i64((v * 1000.0).round())
+}
+
+// In thousandths, each coordinate in nine places.
+impl Display for Point {
+    fn fmt<W: fmt::Write>(&self, f: &mut Formatter<W>) -> fmt::Result {
+        let x = thousandths(self.x);
+        let y = thousandths(self.y);
+        write!(f, "{x:>9}{y:>9}")
+    }
+}
+
 fn main(rt: HostRuntime) {
     let mut smooth_x = [0.0f32; 16];
     let mut smooth_y = [0.0f32; 16];
-    let x = LEAF_X;
-    let y = LEAF_Y;
     // Exact takes every frequency from -0.497 on.
-    let _ = smooth(&x, &mut smooth_x);
-    let _ = smooth(&y, &mut smooth_y);
+    let _ = smooth(&LEAF_X, &mut smooth_x);
+    let _ = smooth(&LEAF_Y, &mut smooth_y);
+    // It has room for every line.
     let mut text = Text::new();
-    put_heading(&mut text);
-    for i in 0..16 {
-        let drawn = Point { x: x[i], y: y[i] };
-        let smoothed = Point {
-            x: smooth_x[i],
-            y: smooth_y[i],
-        };
-        put_line(&mut text, i, drawn, smoothed);
-    }
+    let _ = put_lines(&mut text, &smooth_x, &smooth_y);
     print(&rt, text.as_slice());
 }
 
@@ -68,75 +74,38 @@ fn smooth(line: &[f32; 16], out: &mut [f32; 16]) -> Result<(), Refusal> {
     Ok(())
 }
 
-fn put_heading(text: &mut Text) {
-    put(
+fn put_lines(text: &mut Text, smooth_x: &[f32; 16], smooth_y: &[f32; 16]) -> io::Result<()> {
+    writeln!(
         text,
-        b"A leaf as drawn and as smoothed, in thousandths of a stitch unit. A low-pass filter\n",
-    );
-    put(
+        "A leaf as drawn and as smoothed, in thousandths of a stitch unit. A low-pass filter"
+    )?;
+    writeln!(
         text,
-        b"for each coordinate takes the jags out; it knows only the points before, so that the\n",
-    );
-    put(
+        "for each coordinate takes the jags out; it knows only the points before, so that the"
+    )?;
+    writeln!(
         text,
-        b"smoothed outline lags a point or two behind: that is why every point moved.\n\n",
-    );
-    put(
+        "smoothed outline lags a point or two behind: that is why every point moved."
+    )?;
+    writeln!(text)?;
+    writeln!(
         text,
-        b"    point  drawn x        y smooth x        y  moved x        y\n",
-    );
-}
-
-fn put_line(text: &mut Text, i: usize, drawn: Point, smoothed: Point) {
-    put_number(text, false, i as u64);
-    put_point(text, drawn);
-    put_point(text, smoothed);
-    let moved = Point {
-        x: smoothed.x - drawn.x,
-        y: smoothed.y - drawn.y,
-    };
-    put_point(text, moved);
-    put(text, b"\n");
-}
-
-fn put_point(text: &mut Text, point: Point) {
-    put_thousandths(text, point.x);
-    put_thousandths(text, point.y);
-}
-
-fn put_thousandths(text: &mut Text, v: f32) {
-    if v < 0.0 {
-        let n = thousandths(-v);
-        put_number(text, 0 < n, n);
-    } else {
-        put_number(text, false, thousandths(v));
+        "    point  drawn x        y smooth x        y  moved x        y"
+    )?;
+    for i in 0..16 {
+        let drawn = Point {
+            x: LEAF_X[i],
+            y: LEAF_Y[i],
+        };
+        let smoothed = Point {
+            x: smooth_x[i],
+            y: smooth_y[i],
+        };
+        let moved = Point {
+            x: smoothed.x - drawn.x,
+            y: smoothed.y - drawn.y,
+        };
+        writeln!(text, "{i:>9}{drawn}{smoothed}{moved}")?;
     }
-}
-
-// In nine places, the last digit in the last of them.
-fn put_number(text: &mut Text, negative: bool, n: u64) {
-    let mut digits = [0u8; 20];
-    let k = io::decimal(n, &mut digits);
-    put_space(text, k);
-    put(text, if negative { b"-" } else { b" " });
-    put(text, &digits[..k]);
-}
-
-// The space before a sign and k digits.
-fn put_space(text: &mut Text, k: usize) {
-    let space: &[u8] = b"        ";
-    if k <= 8 {
-        put(text, &space[k..]);
-    }
-}
-
-// The nearest number of thousandths; 0 where that is no u64.
-fn thousandths(v: f32) -> u64 {
-    let x = v * 1000.0 + 0.5;
-    if x > -1.0 {
-        if x < 18446744073709551616.0 {
-            return std::num::truncating_f32_to_u64(x);
-        }
-    }
-    0
+    Ok(())
 }
