@@ -6,7 +6,7 @@ ghost use Rattle.filter_core.specs.Buffer.{Filtered, each, puts};
 ghost use Rattle.dc_blocker.specs.DcBlocker.{dc_new, dc_init, dc_next, dc_out};
 ghost use Rattle.dc_blocker.specs.Fields.{dc_from, dc_fields};
 
-use filter_core::Form;
+use filter_core::{FilterMode, Form};
 
 #[derive(Clone, Copy, Default)]
 pub struct DcBlocker {
@@ -49,14 +49,11 @@ impl DcBlocker {
     }
 }
 
-// Every sample from one buffer to another.
-#[derive(Clone, Copy)]
-pub struct Blocking;
+// From one buffer to another, by any mode: it has one output.
+impl Form<DcBlocker> for FilterMode {
+    ghost next = { λ mode s x. dc_next s x };
 
-impl Form<DcBlocker> for Blocking {
-    ghost next = { λ form s x. dc_next s x };
-
-    ghost out = { λ form s x. dc_out s x };
+    ghost out = { λ mode s x. dc_out s x };
 
     fn step(&self, filter: &mut DcBlocker, x: f32) -> f32 {
         filter.next(x)

@@ -6,32 +6,14 @@ ghost use Rattle.filter_core.specs.Refusal.{number_in};
 ghost use Rattle.any_filter.specs.Cases.{type_of};
 ghost use Rattle.any_filter.specs.declared.FilterType.TheVariants as type;
 ghost use Rattle.runs.specs.Form.{run_refusal};
-ghost use Rattle.runs.specs.Run.{dc_form, only_plain, throughout, svf_form, naive_form, RanBy, Ran};
+ghost use Rattle.runs.specs.Run.{only_plain, throughout, svf_form, naive_form, RanBy, Ran};
 
 use crate::RunForm;
 use any_filter::{Filter, Passes};
 use crossover_svf::CrossoverSvf;
-use dc_blocker::{Blocking, DcBlocker};
 use filter_core::{FilterMode, Form, Refusal, filter_each};
 use naive_svf::NaiveSvf;
 use svf::Svf;
-
-// No plainer in `run_plain`: a DC blocker's form is no mode.
-fn run_dc(
-    f: &mut DcBlocker,
-    form: RunForm,
-    input: &[f32],
-    output: &mut [f32],
-) -> Result<(), Refusal>
-    ensures refusal { number_in result ≡ run_refusal type.DcBlocker form }
-    ensures ran { RanBy (run_refusal type.DcBlocker form) (dc_form form) f.old (within input.now output.old) output.old f.new output.new }
-{
-    let RunForm::Plain(_) = form else {
-        return Err(Refusal::Form);
-    };
-    filter_each(&Blocking, f, input, output);
-    Ok(())
-}
 
 // A filter that has the plain form alone, by its mode: each is refused what a `OnePole` is.
 fn run_plain<S>(f: &mut S, form: RunForm, input: &[f32], output: &mut [f32]) -> Result<(), Refusal>
@@ -80,8 +62,7 @@ fn run_naive(
     Ok(())
 }
 
-// Runs the form, or refuses it and changes nothing. By the filter's own cases, each with its loop: through a dyn filter no loop would know its
-// filter, and each sample would cost a call.
+// Runs the form, or refuses it and changes nothing. By the filter's own cases: a mark keeps a filter as a value, and a dyn filter is none.
 pub fn run(
     filter: &mut Filter,
     form: RunForm,
@@ -92,7 +73,7 @@ pub fn run(
     ensures ran { Ran filter.old form (within input.now output.old) output.old filter.new output.new }
 {
     match filter {
-        Filter::DcBlocker(f) => run_dc(f, form, input, output),
+        Filter::DcBlocker(f) => run_plain(f, form, input, output),
         Filter::OnePole(f) => run_plain(f, form, input, output),
         Filter::Svf(f) => run_svf(f, form, input, output),
         Filter::NaiveSvf(f) => run_naive(f, form, input, output),

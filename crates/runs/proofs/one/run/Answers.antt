@@ -3,10 +3,10 @@ use Rattle.runs.proofs.one.run.Goals as goal
 
 -- No plainer: `using(ran_case)` on the function does not find which filter the case is.
 pub returns-in-DcBlocker-clause-ran : goal.returns-in-DcBlocker-clause-ran
-returns-in-DcBlocker-clause-ran c = ran_case _ _ c.in-DcBlocker.is c.run_dc.ensures.ran
+returns-in-DcBlocker-clause-ran c = ran_case _ _ c.in-DcBlocker.is c.run_plain.ensures.ran
 
 pub returns-in-OnePole-clause-ran : goal.returns-in-OnePole-clause-ran
-returns-in-OnePole-clause-ran c = ran_case _ _ c.in-OnePole.is c.run_plain.ensures.ran
+returns-in-OnePole-clause-ran c = ran_case _ _ c.in-OnePole.is c.run_plain-in-OnePole.ensures.ran
 
 pub returns-in-Svf-clause-ran : goal.returns-in-Svf-clause-ran
 returns-in-Svf-clause-ran c = ran_case _ _ c.in-Svf.is c.run_svf.ensures.ran
