@@ -1,9 +1,9 @@
 // The six filters as one enum: what a head holds. Rest, and a filter as a row of eight numbers and back.
 #![tactic(auto)]
 
-ghost use Rattle.std.specs.Prelude.{◌≡◌};
+ghost use Rattle.std.specs.Prelude.{◌≡◌, ◌≤◌};
 ghost use Rattle.any_filter.specs.Cases.{passes_of, crossover_from, type_of, rested};
-ghost use Rattle.any_filter.specs.Fields.{type_number, field_count, fields_of, filter_from, FieldsReturn};
+ghost use Rattle.any_filter.specs.Fields.{type_number, field_count, padded, fields_of, filter_from, FieldsReturn};
 ghost use Rattle.any_filter.specs.Rest.{RestClears};
 
 use crossover_svf::CrossoverSvf;
@@ -102,6 +102,16 @@ impl FilterType {
     }
 }
 
+// So many numbers, with zeros behind.
+fn padded<const N: usize>(fields: [f32; N]) -> [f32; 8]
+    requires { N ≤ 8 }
+    ensures { result ≡ padded N fields.entry }
+{
+    let mut row = [0.0; 8];
+    row[..N].copy_from_slice(&fields);
+    row
+}
+
 impl Filter {
     pub fn filter_type(&self) -> FilterType
         ensures { result ≡ type_of self.now }
@@ -121,11 +131,11 @@ impl Filter {
         ensures { result ≡ fields_of self.now }
     {
         match *self {
-            Filter::DcBlocker(s) => [s.pole, s.x, s.y, 0.0, 0.0, 0.0, 0.0, 0.0],
-            Filter::OnePole(s) => [s.g, s.gi, s.state, 0.0, 0.0, 0.0, 0.0, 0.0],
-            Filter::Svf(s) => [s.g, s.r, s.h, s.state_1, s.state_2, 0.0, 0.0, 0.0],
-            Filter::NaiveSvf(s) => [s.f, s.damp, s.lp, s.bp, 0.0, 0.0, 0.0, 0.0],
-            Filter::ModifiedSvf(s) => [s.f, s.fq, s.x, s.lp, s.bp, 0.0, 0.0, 0.0],
+            Filter::DcBlocker(s) => padded(s.into()),
+            Filter::OnePole(s) => padded(s.into()),
+            Filter::Svf(s) => padded(s.into()),
+            Filter::NaiveSvf(s) => padded(s.into()),
+            Filter::ModifiedSvf(s) => padded(s.into()),
             Filter::CrossoverSvf(p) => CrossoverSvf::from(p).into(),
         }
     }

@@ -11,9 +11,8 @@ pub(crate) fn raised(count: u32, n: usize) -> Result<u32, Refusal>
     ensures refusal { number_in result ≡ count_refusal count n }
     ensures value { IfOk result (λ after. after ≡ count + n) }
 {
-    // n is compared with what is left, since the sum itself may not fit where n is near the greatest length.
-    if ((u32::MAX - count) as usize) < n {
-        return Err(Refusal::Count);
-    }
-    Ok(count + n as u32)
+    u32::try_from(n)
+        .ok()
+        .and_then(|n| count.checked_add(n))
+        .ok_or(Refusal::Count)
 }
