@@ -27,7 +27,7 @@ pub struct Snapshot {
     pub count: u32,
 }
 
-#[derive(Clone, Drop)]
+#[derive(Clone, Default, Drop)]
 pub struct Head {
     pub now: Snapshot,
     pub marks: ArrayVec<Snapshot, 4>,
@@ -98,10 +98,7 @@ impl Head {
     pub fn empty() -> Head
         ensures { result ≡ empty_head }
     {
-        Head {
-            now: Snapshot::default(),
-            marks: ArrayVec::new(),
-        }
+        Head::default()
     }
 
     // Records what the head holds, and answers the mark's number.
