@@ -133,9 +133,9 @@ fn run_alone(
     input: &[f32],
     out: &mut [f32],
 ) -> io::Result<()> {
-    let before = microseconds(rt.process_cpu_time());
+    let before = rt.process_cpu_time();
     filter.process_buffer(input, out, mode);
-    let after = microseconds(rt.process_cpu_time());
+    let after = rt.process_cpu_time();
     answer(
         rt,
         nanoseconds(before, after),
@@ -153,9 +153,9 @@ fn run_framed(
     out: &mut [f32],
 ) -> io::Result<()> {
     let _ = frame.load(0, 0);
-    let before = microseconds(rt.process_cpu_time());
+    let before = rt.process_cpu_time();
     run_all(frame, mode, length, input, out);
-    let after = microseconds(rt.process_cpu_time());
+    let after = rt.process_cpu_time();
     answer(rt, nanoseconds(before, after), &fields(frame), out)
 }
 
@@ -172,25 +172,12 @@ fn run_all(
     }
 }
 
-// 0 where the clock cannot be read, or says more than a u64 holds.
-fn microseconds(t: io::Result<Duration>) -> u64 {
-    match t {
-        Ok(passed) => u64::try_from(passed.as_micros()).unwrap_or(0),
-        Err(_) => 0,
-    }
-}
-
-// What has passed, if it is no more than a word holds.
-fn nanoseconds(before: u64, after: u64) -> u32 {
-    if after < before {
+// What has passed, as far as a word holds it; 0 where the clock cannot be read.
+fn nanoseconds(before: io::Result<Duration>, after: io::Result<Duration>) -> u32 {
+    let (Ok(before), Ok(after)) = (before, after) else {
         return 0;
-    }
-    let passed = after - before;
-    if passed < 4000000 {
-        passed as u32 * 1000
-    } else {
-        4000000000
-    }
+    };
+    u32::try_from(after.saturating_sub(before).as_nanos()).unwrap_or(u32::MAX)
 }
 
 fn answer(rt: HostRuntime, time: u32, numbers: &[f32; 8], out: &[f32]) -> io::Result<()> {

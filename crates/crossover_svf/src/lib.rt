@@ -41,7 +41,7 @@ impl CrossoverSvf {
         self.bp = [0.0; 2];
     }
 
-    // The last samples x stay, as in the source, whose parameters f and fq are.
+    // The last samples x stay, as in the source. Two parameters, as the source's call has them.
     pub fn set_f_fq(&mut self, f: f32, fq: f32)
         ensures { self.new ≡ crossover_set_f_fq self.old f fq }
     {
@@ -49,7 +49,7 @@ impl CrossoverSvf {
         self.fq = fq;
     }
 
-    // The pass k as a filter of its own, field by field: it has them from two places.
+    // The pass k as a filter of its own, field by field: its settings are the crossover's, its samples those of place k.
     fn pass(&self, k: usize) -> ModifiedSvf
         requires { k < 2 }
         ensures { result ≡ pass k self.now }

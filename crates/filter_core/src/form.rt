@@ -28,8 +28,8 @@ pub trait PairForm<S> {
         ensures second_value { result.1 ≡ second self.now filter.old x };
 }
 
-// Every sample within the shorter length is filtered, and its place written. Input and output are parameters of their own, here and in every
-// form, as in the source: of a struct of both the one half would be lent and the other lent to be changed.
+// Every sample within the shorter length is filtered, and its place written, by a counted loop, as 01 asks. Input and output are parameters
+// of their own, here and in every form, as in the source: of a struct of both the one half would be lent and the other lent to be changed.
 pub fn filter_each<S, F: Form<S>>(form: &F, filter: &mut S, input: &[f32], output: &mut [f32])
     ensures { Filtered (each (F.next form.now)) (puts (F.out form.now)) filter.old (within input.now output.old)
         output.old filter.new output.new }

@@ -1,6 +1,6 @@
 // The exported functions by number: 10 and up DcBlocker, 20 OnePole, 30 Svf, 50 NaiveSvf, 60 ModifiedSvf, 70 CrossoverSvf; the buffer
 // forms 100 above. A call answers the number that the function does, 0 where it answers none, and None where there is no such method.
-// The method is matched as a number, and once, since it comes in with the record.
+// The method is matched as a number, since it comes in with the record.
 
 use filter_exports::{
     crossover_svf_calls, dc_blocker_calls, modified_svf_calls, naive_svf_calls, one_pole_calls,

@@ -21,7 +21,7 @@ pub struct Svf {
     pub state_2: f32,
 }
 
-// The three taps of a sample. Numbers as the gains of `Mix` are, but others.
+// The three taps of a sample. `Mix` has three numbers as well, but gains.
 #[derive(Clone, Copy)]
 struct Taps {
     high: f32,
@@ -188,6 +188,7 @@ impl Svf {
         ensures { Filtered (each_due stride svf_next) (puts_due stride (svf_out mode)) self.old (within in_.now out.old) out.old self.new out.new }
     {
         let n = in_.len().min(out.len());
+        // A counted loop, as 01 asks.
         for i in (0..n).step_by(stride) {
             out[i] = self.process(in_[i], mode);
         }
