@@ -7,7 +7,7 @@ ghost use Rattle.conversion.specs.Conversion.{series_refusal, series_among, want
 ghost use Rattle.conversion.specs.Rows.{ConvertByRows};
 ghost use Rattle.conversion.specs.Converted.{Conversions};
 
-use filter_core::Refusal;
+use filter_core::{FrequencyApproximation, Refusal};
 use sheets::Edition;
 
 // ---- the refusals
@@ -16,10 +16,9 @@ use sheets::Edition;
 fn check_series(kind: u8) -> Result<(), Refusal>
     ensures { number_in result ≡ series_refusal kind }
 {
-    if kind / 16 == 4 {
-        Err(Refusal::Series)
-    } else {
-        Ok(())
+    match FrequencyApproximation::try_from(u32::from(kind / 16)) {
+        Ok(FrequencyApproximation::Series) => Err(Refusal::Series),
+        _ => Ok(()),
     }
 }
 

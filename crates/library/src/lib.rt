@@ -60,6 +60,7 @@ fn library_of(sheet: &[u8]) -> Library
         edition: sheets::edition_in(sheet),
         entries: ArrayVec::new(),
     };
+    // A counted loop, as 01 asks: `collect` could fail past 64 entries, and no sheet has so many.
     for e in 0..sheets::entries(sheet) {
         library.entries.push(stored_in(sheet, e));
     }
@@ -76,6 +77,9 @@ pub fn read(sheet: &[u8]) -> Result<Library, Refusal>
 }
 
 // ---- writing
+
+// The writes thread a place through, since they write into the lent buffer itself: a sheet of 834 bytes beside it would be fixed memory more,
+// and a copy.
 
 // The length of a sheet of n entries, where a write to so much room is accepted.
 fn check_write(n: usize, room: usize) -> Result<usize, Refusal>
