@@ -26,6 +26,7 @@ fn check_series(kind: u8) -> Result<(), Refusal>
 fn check_series_among(n: usize, sheet: &[u8]) -> Result<(), Refusal>
     ensures { number_in result ≡ series_among n sheet.now }
 {
+    // A counted loop, as 01 asks. No plainer: an iterator over the part of the kinds asks for a sheet's size first, and for a law of the part.
     for e in 0..n {
         check_series(words::byte_at(sheet, 2, e))?;
     }
