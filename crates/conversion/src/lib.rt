@@ -7,7 +7,7 @@ ghost use Rattle.conversion.specs.Conversion.{series_refusal, series_among, want
 ghost use Rattle.conversion.specs.Rows.{ConvertByRows};
 ghost use Rattle.conversion.specs.Converted.{Conversions};
 
-use filter_core::Refusal;
+use filter_core::{FrequencyApproximation, Refusal};
 use sheets::Edition;
 
 // ---- the refusals
@@ -16,10 +16,9 @@ use sheets::Edition;
 fn check_series(kind: u8) -> Result<(), Refusal>
     ensures { number_in result ≡ series_refusal kind }
 {
-    if kind / 16 == 4 {
-        Err(Refusal::Series)
-    } else {
-        Ok(())
+    match FrequencyApproximation::try_from(u32::from(kind / 16)) {
+        Ok(FrequencyApproximation::Series) => Err(Refusal::Series),
+        _ => Ok(()),
     }
 }
 
@@ -27,6 +26,7 @@ fn check_series(kind: u8) -> Result<(), Refusal>
 fn check_series_among(n: usize, sheet: &[u8]) -> Result<(), Refusal>
     ensures { number_in result ≡ series_among n sheet.now }
 {
+    // A counted loop, as 01 asks. No plainer: an iterator over the part of the kinds asks for a sheet's size first, and for a law of the part.
     for e in 0..n {
         check_series(words::byte_at(sheet, 2, e))?;
     }

@@ -22,30 +22,27 @@ pub struct StoredEntry {
 }
 
 // No sheet has more than 64 entries.
-#[derive(Clone, Debug, Drop, PartialEq, Eq)]
+#[derive(Clone, Debug, Default, Drop, PartialEq, Eq)]
 pub struct Library {
     pub edition: Edition,
     pub entries: ArrayVec<StoredEntry, 64>,
 }
 
-// The library of a frame that has opened no sheet: a name and a clause of its own, which Default would not have.
+// The library of a frame that has opened no sheet.
 pub fn none() -> Library
     ensures { result ≡ none }
 {
-    Library {
-        edition: Edition::One,
-        entries: ArrayVec::new(),
-    }
+    Library::default()
 }
 
 // ---- reading
 
-// Entry e of a sheet of n entries. A sheet and a number are two parameters, here as in 01's lookup: the number may be one that it has not.
-fn stored_in(sheet: &[u8], n: usize, e: usize) -> StoredEntry
-    requires { Fits n sheet.now × (n ≡ entries_of sheet.now) × (e < n) }
+// Entry e of a sheet.
+fn stored_in(sheet: &[u8], e: usize) -> StoredEntry
+    requires { Fits (entries_of sheet.now) sheet.now × (e < entries_of sheet.now) }
     ensures { result ≡ stored_in sheet.now e }
 {
-    let at = sheets::setting_place(n, e);
+    let at = sheets::setting_place(sheets::entries(sheet), e);
     let mut setting = [0; 12];
     setting.copy_from_slice(&sheet[at..at + 12]);
     StoredEntry {
@@ -55,16 +52,17 @@ fn stored_in(sheet: &[u8], n: usize, e: usize) -> StoredEntry
 }
 
 #[tactic(auto, using(lists::proofs::Tables::table_none, lists::proofs::Tables::table_more, crate::proofs::Tables::table_room))]
-fn library_of(sheet: &[u8], n: usize) -> Library
-    requires { Fits n sheet.now × (n ≡ entries_of sheet.now) }
+fn library_of(sheet: &[u8]) -> Library
+    requires { Fits (entries_of sheet.now) sheet.now }
     ensures { result ≡ library_of sheet.now }
 {
     let mut library = Library {
         edition: sheets::edition_in(sheet),
         entries: ArrayVec::new(),
     };
-    for e in 0..n {
-        library.entries.push(stored_in(sheet, n, e));
+    // A counted loop, as 01 asks: `collect` could fail past 64 entries, and no sheet has so many.
+    for e in 0..sheets::entries(sheet) {
+        library.entries.push(stored_in(sheet, e));
     }
     library
 }
@@ -75,10 +73,13 @@ pub fn read(sheet: &[u8]) -> Result<Library, Refusal>
     ensures library { IfOk result (λ library. library ≡ library_of sheet.now) }
 {
     sheets::check(sheet)?;
-    Ok(library_of(sheet, sheets::entries(sheet)))
+    Ok(library_of(sheet))
 }
 
 // ---- writing
+
+// The writes thread a place through, since they write into the lent buffer itself: a sheet of 834 bytes beside it would be fixed memory more,
+// and a copy.
 
 // The length of a sheet of n entries, where a write to so much room is accepted.
 fn check_write(n: usize, room: usize) -> Result<usize, Refusal>

@@ -1,7 +1,7 @@
 -- An entry that the check takes is set: its setter's number is 0. Assumes nothing.
 use Prim.Native.Nat.{ℕ}
 use Rattle.std.specs.Prelude.{Some}
-use mathlib.Core.Path.{◌≡◌, refl, sym, ap, ◌∙◌}
+use mathlib.Core.Path.{◌≡◌, refl, ◌∙◌}
 use Rattle.filter_core.specs.Arithmetic.{word}
 use Rattle.filter_core.specs.Refusal.{frequency_refusal, unless_refused}
 use borrow.Author.Tests.{eq-eqb}

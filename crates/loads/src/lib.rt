@@ -17,11 +17,13 @@ use sheets::{Entry, Setter};
 use svf::Svf;
 
 // New of the setter's type, and then the setter, which takes as many of the three numbers as it has parameters. One that is refused leaves
-// the new filter; no entry of a sheet is.
+// the new filter; no entry of a sheet is. The numbers are those of an entry's fields, which are public and have 01's names, so no array
+// holds the three.
 #[tactic(auto, unfolding(crate::specs::Load::filter_for))]
 fn filter_for(setter: Setter, a: f32, b: f32, c: f32) -> Filter
     ensures { result ≡ filter_for setter a b c }
 {
+    // By the setter's own cases.
     match setter {
         Setter::DcBlocker => {
             let mut filter = DcBlocker::new();

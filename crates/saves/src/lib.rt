@@ -14,7 +14,7 @@ use filter_core::Refusal;
 use library::Library;
 
 // The sheet's bytes, and how many of them were taken. The longest sheet has 834.
-#[derive(Clone, Debug, Drop, PartialEq, Eq)]
+#[derive(Clone, Debug, Default, Drop, PartialEq, Eq)]
 pub struct Save {
     pub bytes: ArrayVec<u8, 834>,
     pub taken: usize,
@@ -65,11 +65,11 @@ fn begun_with(library: &Library) -> Result<Save, Refusal>
 }
 
 impl Save {
-    // No save was begun: a name and a clause of its own, which Default would not have.
+    // No save was begun.
     pub fn none() -> Save
         ensures { result ≡ no_save }
     {
-        untaken(ArrayVec::new())
+        Save::default()
     }
 
     // No call makes a save of which more is taken than there is; all the same the contract is for every save.

@@ -6,8 +6,9 @@ ghost use Rattle.sheets.specs.Edition.{edition_byte, edition_of, edition_refusal
 
 use filter_core::Refusal;
 
-#[derive(Clone, Copy, Debug, PartialEq, Eq)]
+#[derive(Clone, Copy, Debug, Default, PartialEq, Eq)]
 pub enum Edition {
+    #[default]
     One,
     Two,
 }
@@ -42,8 +43,5 @@ impl TryFrom<u8> for Edition {
 pub fn edition_of(byte: u8) -> Edition
     ensures { result ≡ edition_of byte }
 {
-    match byte {
-        2 => Edition::Two,
-        _ => Edition::One,
-    }
+    Edition::try_from(byte).unwrap_or(Edition::One)
 }

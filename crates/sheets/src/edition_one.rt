@@ -15,6 +15,7 @@ fn entries(sheet: &[u8]) -> usize
     usize::from(words::byte_at(sheet, 0, 0)) + 256 * usize::from(words::byte_at(sheet, 0, 1))
 }
 
+// The calls of reader.rt again, since these take n from two bytes, and ask for no edition.
 pub fn check_edition_one(sheet: &[u8]) -> Result<(), Refusal>
     ensures { number_in result ≡ check_one sheet.now }
 {

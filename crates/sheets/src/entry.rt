@@ -1,4 +1,5 @@
-// An entry: its kind byte and its three words, as they stand in the sheet.
+// An entry: its kind byte and its three words, as they stand in the sheet. The words are public and have 01's names, so they are fields and no
+// array.
 
 ghost use Rattle.std.specs.Prelude.{◌≡◌};
 ghost use Rattle.sheets.specs.Sheet.{entry_of};

@@ -12,6 +12,7 @@ use filter_core::{FrequencyApproximation, Refusal};
 fn words_used(setter: Setter) -> u8
     ensures { result ≡ used setter }
 {
+    // By the setter's own cases.
     match setter {
         Setter::DcBlocker | Setter::OnePole(_) => 1,
         Setter::SvfCoefficients => 3,
@@ -31,6 +32,7 @@ fn check_word(used: u8, k: u8, w: u32) -> Result<(), Refusal>
     if right { Ok(()) } else { Err(Refusal::Word) }
 }
 
+// The words are three fields, so each is named with its place: an array of them would be a loop for three lines.
 fn check_words(used: u8, entry: Entry) -> Result<(), Refusal>
     ensures { number_in result ≡ words_refusal used entry }
 {
@@ -48,6 +50,7 @@ fn check_frequency(a: u32, approximation: FrequencyApproximation) -> Result<(), 
 fn check_setting(setter: Setter, a: u32) -> Result<(), Refusal>
     ensures { number_in result ≡ setting_refusal setter a }
 {
+    // By the setter's own cases.
     match setter {
         Setter::OnePole(p) | Setter::SvfFrequency(p) | Setter::NaiveSvf(p) => check_frequency(a, p),
         _ => Ok(()),

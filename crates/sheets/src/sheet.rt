@@ -18,7 +18,8 @@ pub fn setting_place(n: usize, e: usize) -> usize
     e.saturating_mul(12).saturating_add(n.saturating_add(2))
 }
 
-// As many bytes as n entries take, to be read by an edition. Both readers make one, each in its way.
+// As many bytes as n entries take, to be read by an edition. Both readers make one, each in its way: n stands beside the bytes, since one takes
+// it from their first byte, and the other from the first two.
 #[derive(Clone, Copy)]
 pub(crate) struct Sheet<'a> {
     edition: Edition,
@@ -53,7 +54,7 @@ impl<'a> Sheet<'a> {
         entry_of(words::byte_at(self.bytes, 2, e), self.setting(e))
     }
 
-    // Entry by entry.
+    // Entry by entry. A counted loop, as 01 asks: its number is that of the entry, whose kind and setting stand apart in the bytes.
     #[tactic(auto, using(crate::proofs::Checks::first_start, crate::proofs::Checks::first_again, crate::proofs::Checks::first_refused))]
     pub(crate) fn check(&self) -> Result<(), Refusal>
         ensures { number_in result ≡ first_refusal self.now.n (refusal_at self.now.edition self.now.n self.now.bytes.now) }
