@@ -8,7 +8,7 @@ ghost use Rattle.filter_fields.specs.Numbers.{unknown_refusal};
 ghost use Rattle.crossover_svf.specs.Fields.{crossover_from, crossover_fields};
 ghost use Rattle.filter_exports.specs.Calls.{Runs};
 
-use crate::UNKNOWN;
+use crate::{UNKNOWN, change};
 use crossover_svf::CrossoverSvf;
 use filter_core::FilterMode;
 
@@ -21,25 +21,19 @@ pub fn crossover_svf_new(state: &mut [f32; 8])
 pub fn crossover_svf_init(state: &mut [f32; 8])
     ensures { state.new ≡ crossover_fields (crossover_init (crossover_from state.old)) }
 {
-    let mut filter = CrossoverSvf::from(*state);
-    filter.init();
-    *state = filter.into();
+    change(state, |filter: &mut CrossoverSvf| filter.init());
 }
 
 pub fn crossover_svf_reset(state: &mut [f32; 8])
     ensures { state.new ≡ crossover_fields (crossover_reset (crossover_from state.old)) }
 {
-    let mut filter = CrossoverSvf::from(*state);
-    filter.reset();
-    *state = filter.into();
+    change(state, |filter: &mut CrossoverSvf| filter.reset());
 }
 
 pub fn crossover_svf_set_f_fq(state: &mut [f32; 8], f: f32, fq: f32)
     ensures { state.new ≡ crossover_fields (crossover_set_f_fq (crossover_from state.old) f fq) }
 {
-    let mut filter = CrossoverSvf::from(*state);
-    filter.set_f_fq(f, fq);
-    *state = filter.into();
+    change(state, |filter: &mut CrossoverSvf| filter.set_f_fq(f, fq));
 }
 
 // Refused with UNKNOWN.

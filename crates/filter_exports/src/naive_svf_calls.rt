@@ -10,7 +10,7 @@ ghost use Rattle.filter_fields.specs.Numbers.{unknown_refusal};
 ghost use Rattle.naive_svf.specs.Fields.{naive_from, naive_fields};
 ghost use Rattle.filter_exports.specs.Calls.{Sets, Answers, Runs, Filters};
 
-use crate::UNKNOWN;
+use crate::{UNKNOWN, change};
 use filter_core::{FilterMode, FrequencyApproximation};
 use naive_svf::NaiveSvf;
 
@@ -23,17 +23,13 @@ pub fn naive_svf_new(state: &mut [f32; 4])
 pub fn naive_svf_init(state: &mut [f32; 4])
     ensures { state.new ≡ naive_fields (naive_init (naive_from state.old)) }
 {
-    let mut filter = NaiveSvf::from(*state);
-    filter.init();
-    *state = filter.into();
+    change(state, |filter: &mut NaiveSvf| filter.init());
 }
 
 pub fn naive_svf_reset(state: &mut [f32; 4])
     ensures { state.new ≡ naive_fields (naive_reset (naive_from state.old)) }
 {
-    let mut filter = NaiveSvf::from(*state);
-    filter.reset();
-    *state = filter.into();
+    change(state, |filter: &mut NaiveSvf| filter.reset());
 }
 
 // Refused with UNKNOWN, then with 11 where Exact gets an f below -0.497.

@@ -10,7 +10,7 @@ ghost use Rattle.filter_fields.specs.Numbers.{unknown_refusal};
 ghost use Rattle.one_pole.specs.Fields.{one_pole_from, one_pole_fields};
 ghost use Rattle.filter_exports.specs.Calls.{Gives, Sets, Answers};
 
-use crate::UNKNOWN;
+use crate::{UNKNOWN, change};
 use filter_core::{FilterMode, FrequencyApproximation};
 use one_pole::OnePole;
 
@@ -23,17 +23,13 @@ pub fn one_pole_new(state: &mut [f32; 3])
 pub fn one_pole_init(state: &mut [f32; 3])
     ensures { state.new ≡ one_pole_fields (one_pole_init (one_pole_from state.old)) }
 {
-    let mut filter = OnePole::from(*state);
-    filter.init();
-    *state = filter.into();
+    change(state, |filter: &mut OnePole| filter.init());
 }
 
 pub fn one_pole_reset(state: &mut [f32; 3])
     ensures { state.new ≡ one_pole_fields (one_pole_reset (one_pole_from state.old)) }
 {
-    let mut filter = OnePole::from(*state);
-    filter.reset();
-    *state = filter.into();
+    change(state, |filter: &mut OnePole| filter.reset());
 }
 
 // Refused with UNKNOWN, then with 11 where Exact gets an f below -0.497.

@@ -11,7 +11,7 @@ ghost use Rattle.filter_fields.specs.Numbers.{unknown_refusal};
 ghost use Rattle.svf.specs.Fields.{svf_from, svf_fields};
 ghost use Rattle.filter_exports.specs.Calls.{Sets, Answers, Runs, Filters};
 
-use crate::UNKNOWN;
+use crate::{UNKNOWN, change};
 use filter_core::{FilterMode, FrequencyApproximation};
 use svf::Svf;
 
@@ -24,49 +24,37 @@ pub fn svf_new(state: &mut [f32; 5])
 pub fn svf_init(state: &mut [f32; 5])
     ensures { state.new ≡ svf_fields (svf_init (svf_from state.old)) }
 {
-    let mut filter = Svf::from(*state);
-    filter.init();
-    *state = filter.into();
+    change(state, |filter: &mut Svf| filter.init());
 }
 
 pub fn svf_reset(state: &mut [f32; 5])
     ensures { state.new ≡ svf_fields (svf_reset (svf_from state.old)) }
 {
-    let mut filter = Svf::from(*state);
-    filter.reset();
-    *state = filter.into();
+    change(state, |filter: &mut Svf| filter.reset());
 }
 
 pub fn svf_set(state: &mut [f32; 5], other: &[f32; 5])
     ensures { state.new ≡ svf_fields (svf_set (svf_from state.old) (svf_from other.now)) }
 {
-    let mut filter = Svf::from(*state);
-    filter.set(&Svf::from(*other));
-    *state = filter.into();
+    change(state, |filter: &mut Svf| filter.set(&Svf::from(*other)));
 }
 
 pub fn svf_set_g_r_h(state: &mut [f32; 5], g: f32, r: f32, h: f32)
     ensures { state.new ≡ svf_fields (svf_set_g_r_h (svf_from state.old) g r h) }
 {
-    let mut filter = Svf::from(*state);
-    filter.set_g_r_h(g, r, h);
-    *state = filter.into();
+    change(state, |filter: &mut Svf| filter.set_g_r_h(g, r, h));
 }
 
 pub fn svf_set_g_r(state: &mut [f32; 5], g: f32, r: f32)
     ensures { state.new ≡ svf_fields (svf_set_g_r (svf_from state.old) g r) }
 {
-    let mut filter = Svf::from(*state);
-    filter.set_g_r(g, r);
-    *state = filter.into();
+    change(state, |filter: &mut Svf| filter.set_g_r(g, r));
 }
 
 pub fn svf_set_g_q(state: &mut [f32; 5], g: f32, resonance: f32)
     ensures { state.new ≡ svf_fields (svf_set_g_q (svf_from state.old) g resonance) }
 {
-    let mut filter = Svf::from(*state);
-    filter.set_g_q(g, resonance);
-    *state = filter.into();
+    change(state, |filter: &mut Svf| filter.set_g_q(g, resonance));
 }
 
 // Refused with UNKNOWN, then with 11 where Exact gets an f below -0.497.
