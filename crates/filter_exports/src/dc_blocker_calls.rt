@@ -21,6 +21,7 @@ pub fn dc_blocker_init(state: &mut [f32; 3], pole: f32)
     change(state, |filter: &mut DcBlocker| filter.init(pole));
 }
 
+// The one call with an output and no mode: `change` has no output.
 pub fn dc_blocker_process(state: &mut [f32; 3], in_out: &mut [f32])
     ensures { Filters dc_from dc_fields (each dc_next) (puts dc_out)
         state.old in_out.old in_out.old state.new in_out.new }

@@ -8,8 +8,7 @@ ghost use Rattle.filter_fields.specs.Numbers.{unknown_refusal};
 ghost use Rattle.modified_svf.specs.Fields.{modified_from, modified_fields};
 ghost use Rattle.filter_exports.specs.Calls.{Runs};
 
-use crate::{UNKNOWN, change};
-use filter_core::FilterMode;
+use crate::{change, filter_buffer};
 use modified_svf::ModifiedSvf;
 
 pub fn modified_svf_new(state: &mut [f32; 5])
@@ -41,11 +40,13 @@ pub fn modified_svf_process(state: &mut [f32; 5], in_: &[f32], out: &mut [f32], 
     ensures { Runs modified_from modified_fields (unknown_refusal last_mode mode) (each (modified_next (mode_of mode))) (puts (modified_out (mode_of mode)))
         state.old (within in_.now out.old) out.old result state.new out.new }
 {
-    let Ok(mode) = FilterMode::try_from(mode) else {
-        return UNKNOWN;
-    };
-    let mut filter = ModifiedSvf::from(*state);
-    filter.process(in_, out, mode);
-    *state = filter.into();
-    0
+    filter_buffer(
+        state,
+        mode,
+        out,
+        |filter: &mut ModifiedSvf, mode, out: &mut [f32]| {
+            filter.process(in_, out, mode);
+            Ok(())
+        },
+    )
 }
