@@ -8,9 +8,8 @@ ghost use Rattle.filter_fields.specs.Numbers.{unknown_refusal};
 ghost use Rattle.crossover_svf.specs.Fields.{crossover_from, crossover_fields};
 ghost use Rattle.filter_exports.specs.Calls.{Runs};
 
-use crate::UNKNOWN;
+use crate::{change, filter_buffer};
 use crossover_svf::CrossoverSvf;
-use filter_core::FilterMode;
 
 pub fn crossover_svf_new(state: &mut [f32; 8])
     ensures { state.new ≡ crossover_fields crossover_new }
@@ -21,25 +20,19 @@ pub fn crossover_svf_new(state: &mut [f32; 8])
 pub fn crossover_svf_init(state: &mut [f32; 8])
     ensures { state.new ≡ crossover_fields (crossover_init (crossover_from state.old)) }
 {
-    let mut filter = CrossoverSvf::from(*state);
-    filter.init();
-    *state = filter.into();
+    change(state, |filter: &mut CrossoverSvf| filter.init());
 }
 
 pub fn crossover_svf_reset(state: &mut [f32; 8])
     ensures { state.new ≡ crossover_fields (crossover_reset (crossover_from state.old)) }
 {
-    let mut filter = CrossoverSvf::from(*state);
-    filter.reset();
-    *state = filter.into();
+    change(state, |filter: &mut CrossoverSvf| filter.reset());
 }
 
 pub fn crossover_svf_set_f_fq(state: &mut [f32; 8], f: f32, fq: f32)
     ensures { state.new ≡ crossover_fields (crossover_set_f_fq (crossover_from state.old) f fq) }
 {
-    let mut filter = CrossoverSvf::from(*state);
-    filter.set_f_fq(f, fq);
-    *state = filter.into();
+    change(state, |filter: &mut CrossoverSvf| filter.set_f_fq(f, fq));
 }
 
 // Refused with UNKNOWN.
@@ -47,11 +40,13 @@ pub fn crossover_svf_process(state: &mut [f32; 8], in_: &[f32], out: &mut [f32],
     ensures { Runs crossover_from crossover_fields (unknown_refusal last_mode mode) (each (crossover_next (mode_of mode))) (puts (crossover_out (mode_of mode)))
         state.old (within in_.now out.old) out.old result state.new out.new }
 {
-    let Ok(mode) = FilterMode::try_from(mode) else {
-        return UNKNOWN;
-    };
-    let mut filter = CrossoverSvf::from(*state);
-    filter.process(in_, out, mode);
-    *state = filter.into();
-    0
+    filter_buffer(
+        state,
+        mode,
+        out,
+        |filter: &mut CrossoverSvf, mode, out: &mut [f32]| {
+            filter.process(in_, out, mode);
+            Ok(())
+        },
+    )
 }

@@ -8,8 +8,7 @@ ghost use Rattle.filter_fields.specs.Numbers.{unknown_refusal};
 ghost use Rattle.modified_svf.specs.Fields.{modified_from, modified_fields};
 ghost use Rattle.filter_exports.specs.Calls.{Runs};
 
-use crate::UNKNOWN;
-use filter_core::FilterMode;
+use crate::{change, filter_buffer};
 use modified_svf::ModifiedSvf;
 
 pub fn modified_svf_new(state: &mut [f32; 5])
@@ -21,25 +20,19 @@ pub fn modified_svf_new(state: &mut [f32; 5])
 pub fn modified_svf_init(state: &mut [f32; 5])
     ensures { state.new ≡ modified_fields (modified_init (modified_from state.old)) }
 {
-    let mut filter = ModifiedSvf::from(*state);
-    filter.init();
-    *state = filter.into();
+    change(state, |filter: &mut ModifiedSvf| filter.init());
 }
 
 pub fn modified_svf_reset(state: &mut [f32; 5])
     ensures { state.new ≡ modified_fields (modified_reset (modified_from state.old)) }
 {
-    let mut filter = ModifiedSvf::from(*state);
-    filter.reset();
-    *state = filter.into();
+    change(state, |filter: &mut ModifiedSvf| filter.reset());
 }
 
 pub fn modified_svf_set_f_fq(state: &mut [f32; 5], f: f32, fq: f32)
     ensures { state.new ≡ modified_fields (modified_set_f_fq (modified_from state.old) f fq) }
 {
-    let mut filter = ModifiedSvf::from(*state);
-    filter.set_f_fq(f, fq);
-    *state = filter.into();
+    change(state, |filter: &mut ModifiedSvf| filter.set_f_fq(f, fq));
 }
 
 // Refused with UNKNOWN.
@@ -47,11 +40,13 @@ pub fn modified_svf_process(state: &mut [f32; 5], in_: &[f32], out: &mut [f32], 
     ensures { Runs modified_from modified_fields (unknown_refusal last_mode mode) (each (modified_next (mode_of mode))) (puts (modified_out (mode_of mode)))
         state.old (within in_.now out.old) out.old result state.new out.new }
 {
-    let Ok(mode) = FilterMode::try_from(mode) else {
-        return UNKNOWN;
-    };
-    let mut filter = ModifiedSvf::from(*state);
-    filter.process(in_, out, mode);
-    *state = filter.into();
-    0
+    filter_buffer(
+        state,
+        mode,
+        out,
+        |filter: &mut ModifiedSvf, mode, out: &mut [f32]| {
+            filter.process(in_, out, mode);
+            Ok(())
+        },
+    )
 }

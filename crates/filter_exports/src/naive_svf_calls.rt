@@ -10,8 +10,7 @@ ghost use Rattle.filter_fields.specs.Numbers.{unknown_refusal};
 ghost use Rattle.naive_svf.specs.Fields.{naive_from, naive_fields};
 ghost use Rattle.filter_exports.specs.Calls.{Sets, Answers, Runs, Filters};
 
-use crate::UNKNOWN;
-use filter_core::{FilterMode, FrequencyApproximation};
+use crate::{change, filter_buffer, filter_sample, set};
 use naive_svf::NaiveSvf;
 
 pub fn naive_svf_new(state: &mut [f32; 4])
@@ -23,17 +22,13 @@ pub fn naive_svf_new(state: &mut [f32; 4])
 pub fn naive_svf_init(state: &mut [f32; 4])
     ensures { state.new ≡ naive_fields (naive_init (naive_from state.old)) }
 {
-    let mut filter = NaiveSvf::from(*state);
-    filter.init();
-    *state = filter.into();
+    change(state, |filter: &mut NaiveSvf| filter.init());
 }
 
 pub fn naive_svf_reset(state: &mut [f32; 4])
     ensures { state.new ≡ naive_fields (naive_reset (naive_from state.old)) }
 {
-    let mut filter = NaiveSvf::from(*state);
-    filter.reset();
-    *state = filter.into();
+    change(state, |filter: &mut NaiveSvf| filter.reset());
 }
 
 // Refused with UNKNOWN, then with 11 where Exact gets an f below -0.497.
@@ -41,15 +36,11 @@ pub fn naive_svf_set_f_q(state: &mut [f32; 4], f: f32, resonance: f32, approxima
     ensures { Sets (unknown_refusal last_approximation approximation then frequency_refusal f (approximation_of approximation))
         state.old (naive_fields (naive_set_f_q (naive_from state.old) f resonance (approximation_of approximation))) result state.new }
 {
-    let Ok(approximation) = FrequencyApproximation::try_from(approximation) else {
-        return UNKNOWN;
-    };
-    let mut filter = NaiveSvf::from(*state);
-    if let Err(refusal) = filter.set_f_q(f, resonance, approximation) {
-        return refusal.into();
-    }
-    *state = filter.into();
-    0
+    set(
+        state,
+        approximation,
+        |filter: &mut NaiveSvf, approximation| filter.set_f_q(f, resonance, approximation),
+    )
 }
 
 pub fn naive_svf_lp(state: &[f32; 4]) -> f32
@@ -69,26 +60,27 @@ pub fn naive_svf_process(state: &mut [f32; 4], in_: f32, mode: u32, out: &mut f3
     ensures { Answers (unknown_refusal last_mode mode) state.old (naive_fields (naive_next (naive_from state.old) in_))
         out.old (naive_out (mode_of mode) (naive_from state.old) in_) result state.new out.new }
 {
-    let Ok(mode) = FilterMode::try_from(mode) else {
-        return UNKNOWN;
-    };
-    let mut filter = NaiveSvf::from(*state);
-    *out = filter.process(in_, mode);
-    *state = filter.into();
-    0
+    filter_sample(
+        state,
+        mode,
+        out,
+        |filter: &mut NaiveSvf, mode| filter.process(in_, mode),
+    )
 }
 
 pub fn naive_svf_process_buffer(state: &mut [f32; 4], in_: &[f32], out: &mut [f32], mode: u32) -> u8
     ensures { Runs naive_from naive_fields (unknown_refusal last_mode mode) (each naive_next) (puts (naive_out (mode_of mode)))
         state.old (within in_.now out.old) out.old result state.new out.new }
 {
-    let Ok(mode) = FilterMode::try_from(mode) else {
-        return UNKNOWN;
-    };
-    let mut filter = NaiveSvf::from(*state);
-    filter.process_buffer(in_, out, mode);
-    *state = filter.into();
-    0
+    filter_buffer(
+        state,
+        mode,
+        out,
+        |filter: &mut NaiveSvf, mode, out: &mut [f32]| {
+            filter.process_buffer(in_, out, mode);
+            Ok(())
+        },
+    )
 }
 
 pub fn naive_svf_split(state: &mut [f32; 4], in_: &[f32], low: &mut [f32], high: &mut [f32])
@@ -113,13 +105,12 @@ pub fn naive_svf_process_decimate(
     ensures { Runs naive_from naive_fields (unknown_refusal last_mode mode then step_refusal decimate) (each naive_next) (puts_due decimate (naive_out (mode_of mode)))
         state.old (within in_.now out.old) out.old result state.new out.new }
 {
-    let Ok(mode) = FilterMode::try_from(mode) else {
-        return UNKNOWN;
-    };
-    let mut filter = NaiveSvf::from(*state);
-    if let Err(refusal) = filter.process_decimate(in_, out, decimate, mode) {
-        return refusal.into();
-    }
-    *state = filter.into();
-    0
+    filter_buffer(
+        state,
+        mode,
+        out,
+        |filter: &mut NaiveSvf, mode, out: &mut [f32]| {
+            filter.process_decimate(in_, out, decimate, mode)
+        },
+    )
 }

@@ -10,8 +10,8 @@ ghost use Rattle.filter_fields.specs.Numbers.{unknown_refusal};
 ghost use Rattle.one_pole.specs.Fields.{one_pole_from, one_pole_fields};
 ghost use Rattle.filter_exports.specs.Calls.{Gives, Sets, Answers};
 
-use crate::UNKNOWN;
-use filter_core::{FilterMode, FrequencyApproximation};
+use crate::{UNKNOWN, change, filter_sample, set};
+use filter_core::FrequencyApproximation;
 use one_pole::OnePole;
 
 pub fn one_pole_new(state: &mut [f32; 3])
@@ -23,17 +23,13 @@ pub fn one_pole_new(state: &mut [f32; 3])
 pub fn one_pole_init(state: &mut [f32; 3])
     ensures { state.new ≡ one_pole_fields (one_pole_init (one_pole_from state.old)) }
 {
-    let mut filter = OnePole::from(*state);
-    filter.init();
-    *state = filter.into();
+    change(state, |filter: &mut OnePole| filter.init());
 }
 
 pub fn one_pole_reset(state: &mut [f32; 3])
     ensures { state.new ≡ one_pole_fields (one_pole_reset (one_pole_from state.old)) }
 {
-    let mut filter = OnePole::from(*state);
-    filter.reset();
-    *state = filter.into();
+    change(state, |filter: &mut OnePole| filter.reset());
 }
 
 // Refused with UNKNOWN, then with 11 where Exact gets an f below -0.497.
@@ -58,15 +54,11 @@ pub fn one_pole_set_f(state: &mut [f32; 3], f: f32, approximation: u32) -> u8
     ensures { Sets (unknown_refusal last_approximation approximation then frequency_refusal f (approximation_of approximation))
         state.old (one_pole_fields (one_pole_set_f (one_pole_from state.old) f (approximation_of approximation))) result state.new }
 {
-    let Ok(approximation) = FrequencyApproximation::try_from(approximation) else {
-        return UNKNOWN;
-    };
-    let mut filter = OnePole::from(*state);
-    if let Err(refusal) = filter.set_f(f, approximation) {
-        return refusal.into();
-    }
-    *state = filter.into();
-    0
+    set(
+        state,
+        approximation,
+        |filter: &mut OnePole, approximation| filter.set_f(f, approximation),
+    )
 }
 
 // Refused with UNKNOWN.
@@ -74,11 +66,10 @@ pub fn one_pole_process(state: &mut [f32; 3], in_: f32, mode: u32, out: &mut f32
     ensures { Answers (unknown_refusal last_mode mode) state.old (one_pole_fields (one_pole_next (one_pole_from state.old) in_))
         out.old (one_pole_out (mode_of mode) (one_pole_from state.old) in_) result state.new out.new }
 {
-    let Ok(mode) = FilterMode::try_from(mode) else {
-        return UNKNOWN;
-    };
-    let mut filter = OnePole::from(*state);
-    *out = filter.process(in_, mode);
-    *state = filter.into();
-    0
+    filter_sample(
+        state,
+        mode,
+        out,
+        |filter: &mut OnePole, mode| filter.process(in_, mode),
+    )
 }

@@ -11,8 +11,8 @@ ghost use Rattle.filter_fields.specs.Numbers.{unknown_refusal};
 ghost use Rattle.svf.specs.Fields.{svf_from, svf_fields};
 ghost use Rattle.filter_exports.specs.Calls.{Sets, Answers, Runs, Filters};
 
-use crate::UNKNOWN;
-use filter_core::{FilterMode, FrequencyApproximation};
+use crate::{UNKNOWN, change, filter_sample, set};
+use filter_core::FilterMode;
 use svf::Svf;
 
 pub fn svf_new(state: &mut [f32; 5])
@@ -24,49 +24,37 @@ pub fn svf_new(state: &mut [f32; 5])
 pub fn svf_init(state: &mut [f32; 5])
     ensures { state.new ≡ svf_fields (svf_init (svf_from state.old)) }
 {
-    let mut filter = Svf::from(*state);
-    filter.init();
-    *state = filter.into();
+    change(state, |filter: &mut Svf| filter.init());
 }
 
 pub fn svf_reset(state: &mut [f32; 5])
     ensures { state.new ≡ svf_fields (svf_reset (svf_from state.old)) }
 {
-    let mut filter = Svf::from(*state);
-    filter.reset();
-    *state = filter.into();
+    change(state, |filter: &mut Svf| filter.reset());
 }
 
 pub fn svf_set(state: &mut [f32; 5], other: &[f32; 5])
     ensures { state.new ≡ svf_fields (svf_set (svf_from state.old) (svf_from other.now)) }
 {
-    let mut filter = Svf::from(*state);
-    filter.set(&Svf::from(*other));
-    *state = filter.into();
+    change(state, |filter: &mut Svf| filter.set(&Svf::from(*other)));
 }
 
 pub fn svf_set_g_r_h(state: &mut [f32; 5], g: f32, r: f32, h: f32)
     ensures { state.new ≡ svf_fields (svf_set_g_r_h (svf_from state.old) g r h) }
 {
-    let mut filter = Svf::from(*state);
-    filter.set_g_r_h(g, r, h);
-    *state = filter.into();
+    change(state, |filter: &mut Svf| filter.set_g_r_h(g, r, h));
 }
 
 pub fn svf_set_g_r(state: &mut [f32; 5], g: f32, r: f32)
     ensures { state.new ≡ svf_fields (svf_set_g_r (svf_from state.old) g r) }
 {
-    let mut filter = Svf::from(*state);
-    filter.set_g_r(g, r);
-    *state = filter.into();
+    change(state, |filter: &mut Svf| filter.set_g_r(g, r));
 }
 
 pub fn svf_set_g_q(state: &mut [f32; 5], g: f32, resonance: f32)
     ensures { state.new ≡ svf_fields (svf_set_g_q (svf_from state.old) g resonance) }
 {
-    let mut filter = Svf::from(*state);
-    filter.set_g_q(g, resonance);
-    *state = filter.into();
+    change(state, |filter: &mut Svf| filter.set_g_q(g, resonance));
 }
 
 // Refused with UNKNOWN, then with 11 where Exact gets an f below -0.497.
@@ -74,15 +62,11 @@ pub fn svf_set_f_q(state: &mut [f32; 5], f: f32, resonance: f32, approximation: 
     ensures { Sets (unknown_refusal last_approximation approximation then frequency_refusal f (approximation_of approximation))
         state.old (svf_fields (svf_set_f_q (svf_from state.old) f resonance (approximation_of approximation))) result state.new }
 {
-    let Ok(approximation) = FrequencyApproximation::try_from(approximation) else {
-        return UNKNOWN;
-    };
-    let mut filter = Svf::from(*state);
-    if let Err(refusal) = filter.set_f_q(f, resonance, approximation) {
-        return refusal.into();
-    }
-    *state = filter.into();
-    0
+    set(
+        state,
+        approximation,
+        |filter: &mut Svf, approximation| filter.set_f_q(f, resonance, approximation),
+    )
 }
 
 pub fn svf_g(state: &[f32; 5]) -> f32
@@ -108,13 +92,12 @@ pub fn svf_process(state: &mut [f32; 5], in_: f32, mode: u32, out: &mut f32) -> 
     ensures { Answers (unknown_refusal last_mode mode) state.old (svf_fields (svf_next (svf_from state.old) in_))
         out.old (svf_out (mode_of mode) (svf_from state.old) in_) result state.new out.new }
 {
-    let Ok(mode) = FilterMode::try_from(mode) else {
-        return UNKNOWN;
-    };
-    let mut filter = Svf::from(*state);
-    *out = filter.process(in_, mode);
-    *state = filter.into();
-    0
+    filter_sample(
+        state,
+        mode,
+        out,
+        |filter: &mut Svf, mode| filter.process(in_, mode),
+    )
 }
 
 pub fn svf_process_dual(
@@ -142,6 +125,7 @@ pub fn svf_process_dual(
     0
 }
 
+// The buffer forms have bodies of their own: svf_retain hands back the state alone, so that the settings are not stored again.
 #[tactic(auto, using(crate::proofs::Settings::kept))]
 pub fn svf_process_buffer(state: &mut [f32; 5], in_: &[f32], out: &mut [f32], mode: u32) -> u8
     ensures { Runs svf_from svf_fields (unknown_refusal last_mode mode) (each svf_next) (puts (svf_out (mode_of mode)))

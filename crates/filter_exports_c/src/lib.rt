@@ -1,5 +1,5 @@
 // The functions of filter_exports for C and Rust to link: the same name, the same values lent and the same clauses for each, and nothing else.
-// Numbers, arrays and functions that are alike are C's, as there.
+// C takes numbers and arrays, as there, and no generic function can be exported to it: so the functions that are alike but for the type.
 
 #![tactic(auto)]
 

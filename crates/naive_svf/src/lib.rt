@@ -204,7 +204,8 @@ impl NaiveSvf {
         ensures { Filtered (each naive_next) (puts_due decimate (naive_out mode)) self.old (within in_.now out.old) out.old self.new out.new }
     {
         let n = in_.len().min(out.len());
-        // The phase begins anew at each call. It is counted down, so that no sample has a division.
+        // The phase begins anew at each call. It is counted down, so that no sample has a division. Tried with chunks:
+        // after a loop over `chunks(..).zip(chunks_mut(..))` a proof knows the length of `out`, and nothing of what was written.
         let mut left = 0;
         for i in 0..n {
             let y = self.process(in_[i], mode);
