@@ -78,9 +78,6 @@ pub fn read(sheet: &[u8]) -> Result<Library, Refusal>
 
 // ---- writing
 
-// The writes thread a place through, since they write into the lent buffer itself: a sheet of 834 bytes beside it would be fixed memory more,
-// and a copy.
-
 // The length of a sheet of n entries, where a write to so much room is accepted.
 fn check_write(n: usize, room: usize) -> Result<usize, Refusal>
     requires { n ≤ 64 }
@@ -95,6 +92,7 @@ fn check_write(n: usize, room: usize) -> Result<usize, Refusal>
     Ok(length)
 }
 
+// A place goes through these three: they write into the lent buffer itself, where a sheet of 834 bytes would be memory more, and a copy.
 #[tactic(auto, using(lists::proofs::Over::over_none, std::proofs::lemmas::List::take_all))]
 fn put_kinds(entries: &[StoredEntry], output: &mut [u8], from: usize) -> usize
     ensures { Puts from (flat_map (λ t. t.kind ∷ []) entries.now) output.old result output.new }

@@ -32,7 +32,7 @@ fn check_word(used: u8, k: u8, w: u32) -> Result<(), Refusal>
     if right { Ok(()) } else { Err(Refusal::Word) }
 }
 
-// The words are three fields, so each is named with its place: an array of them would be a loop for three lines.
+// The words are public fields with 01's names, so each is named with its place: an array of them would be a loop for three lines.
 fn check_words(used: u8, entry: Entry) -> Result<(), Refusal>
     ensures { number_in result ≡ words_refusal used entry }
 {
