@@ -81,51 +81,40 @@ pub enum BadLine {
 // Each reader below has words of its own behind the keyword. One for any two words would take two readers of a word, and be no shorter.
 
 // HEAD
-fn one_number(mut fields: Fields<'_>) -> Option<usize>
+fn one_number(fields: Fields<'_>) -> Option<usize>
     ensures { result ≡ one_number (fields_left fields.entry) }
 {
-    let n = fields.next()?;
-    fields.end()?;
-    number_of(n)
+    number_of(fields.one()?)
 }
 
 // HEAD ENTRY, HEAD MARK
-fn two_numbers(mut fields: Fields<'_>) -> Option<(usize, usize)>
+fn two_numbers(fields: Fields<'_>) -> Option<(usize, usize)>
     ensures { result ≡ two_numbers (fields_left fields.entry) }
 {
-    let head = fields.next()?;
-    let n = fields.next()?;
-    fields.end()?;
+    let (head, n) = fields.two()?;
     Some((number_of(head)?, number_of(n)?))
 }
 
 // BYTES
-fn one_buffer<'a>(mut fields: Fields<'a>) -> Option<&'a [u8]>
+fn one_buffer<'a>(fields: Fields<'a>) -> Option<&'a [u8]>
     ensures { option_copied result ≡ one_buffer (fields_left fields.entry) }
 {
-    let b = fields.next()?;
-    fields.end()?;
-    bytes_field(b)
+    bytes_field(fields.one()?)
 }
 
 // BYTES ENTRY
-fn buffer_and_number<'a>(mut fields: Fields<'a>) -> Option<(&'a [u8], usize)>
+fn buffer_and_number<'a>(fields: Fields<'a>) -> Option<(&'a [u8], usize)>
     ensures { option_map text_pair result ≡ buffer_and_number (fields_left fields.entry) }
 {
-    let b = fields.next()?;
-    let n = fields.next()?;
-    fields.end()?;
+    let (b, n) = fields.two()?;
     Some((bytes_field(b)?, number_of(n)?))
 }
 
 // EDITION BYTES BYTES
-fn convert_call<'a>(mut fields: Fields<'a>) -> Option<Call<&'a [u8]>>
+fn convert_call<'a>(fields: Fields<'a>) -> Option<Call<&'a [u8]>>
     ensures { option_map text_call result ≡ convert_call (fields_left fields.entry) }
 {
-    let wanted = fields.next()?;
-    let sheet = fields.next()?;
-    let target = fields.next()?;
-    fields.end()?;
+    let (wanted, sheet, target) = fields.three()?;
     Some(Call::Convert {
         wanted: edition_of(wanted)?,
         sheet: bytes_field(sheet)?,
@@ -138,10 +127,7 @@ fn run_call<'a>(mut fields: Fields<'a>) -> Option<Call<&'a [u8]>>
     ensures { option_map text_call result ≡ run_call (fields_left fields.entry) }
 {
     let head = fields.next()?;
-    let form = fields.next()?;
-    let input = fields.next()?;
-    let output = fields.next()?;
-    fields.end()?;
+    let (form, input, output) = fields.three()?;
     Some(Call::Run {
         head: number_of(head)?,
         form: form_of(form)?,
@@ -156,10 +142,7 @@ fn two_call<'a>(mut fields: Fields<'a>) -> Option<Call<&'a [u8]>>
 {
     let head = fields.next()?;
     let form = fields.next()?;
-    let input = fields.next()?;
-    let first = fields.next()?;
-    let second = fields.next()?;
-    fields.end()?;
+    let (input, first, second) = fields.three()?;
     Some(Call::Two {
         head: number_of(head)?,
         form: form_of(form)?,
