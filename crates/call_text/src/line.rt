@@ -4,7 +4,7 @@ ghost use Rattle.std.specs.Prelude.{◌≡◌, option_map, option_copied};
 ghost use Rattle.form_text.specs.Field.{fields_left};
 ghost use Rattle.call_text.specs.Line.{one_number, two_numbers, one_buffer, buffer_and_number, convert_call, run_call, two_call, call_for, call_of, text_pair, text_call, text_answer};
 
-use crate::buffer::{bytes_field, samples_field};
+use crate::buffer::units_field;
 use crate::edition::edition_of;
 use crate::keyword::{Keyword, keyword_of};
 use digits::number_of;
@@ -99,7 +99,7 @@ fn two_numbers(fields: Fields<'_>) -> Option<(usize, usize)>
 fn one_buffer<'a>(fields: Fields<'a>) -> Option<&'a [u8]>
     ensures { option_copied result ≡ one_buffer (fields_left fields.entry) }
 {
-    bytes_field(fields.one()?)
+    units_field::<u8>(fields.one()?)
 }
 
 // BYTES ENTRY
@@ -107,7 +107,7 @@ fn buffer_and_number<'a>(fields: Fields<'a>) -> Option<(&'a [u8], usize)>
     ensures { option_map text_pair result ≡ buffer_and_number (fields_left fields.entry) }
 {
     let (b, n) = fields.two()?;
-    Some((bytes_field(b)?, number_of(n)?))
+    Some((units_field::<u8>(b)?, number_of(n)?))
 }
 
 // EDITION BYTES BYTES
@@ -117,8 +117,8 @@ fn convert_call<'a>(fields: Fields<'a>) -> Option<Call<&'a [u8]>>
     let (wanted, sheet, target) = fields.three()?;
     Some(Call::Convert {
         wanted: edition_of(wanted)?,
-        sheet: bytes_field(sheet)?,
-        output: bytes_field(target)?,
+        sheet: units_field::<u8>(sheet)?,
+        output: units_field::<u8>(target)?,
     })
 }
 
@@ -131,8 +131,8 @@ fn run_call<'a>(mut fields: Fields<'a>) -> Option<Call<&'a [u8]>>
     Some(Call::Run {
         head: number_of(head)?,
         form: form_of(form)?,
-        input: samples_field(input)?,
-        output: samples_field(output)?,
+        input: units_field::<f32>(input)?,
+        output: units_field::<f32>(output)?,
     })
 }
 
@@ -146,9 +146,9 @@ fn two_call<'a>(mut fields: Fields<'a>) -> Option<Call<&'a [u8]>>
     Some(Call::Two {
         head: number_of(head)?,
         form: form_of(form)?,
-        input: samples_field(input)?,
-        first: samples_field(first)?,
-        second: samples_field(second)?,
+        input: units_field::<f32>(input)?,
+        first: units_field::<f32>(first)?,
+        second: units_field::<f32>(second)?,
     })
 }
 
