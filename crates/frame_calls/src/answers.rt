@@ -2,7 +2,7 @@
 
 use crate::faults;
 use crate::text::{
-    Output, put_bad_line, put_counted, put_head, put_keyword, put_long_line, put_number, put_part,
+    Output, put_bad_line, put_counted, put_head, put_keyword, put_number, put_part,
     put_run, put_two, put_written,
 };
 use arrayvec::ArrayVec;
@@ -146,12 +146,6 @@ pub(crate) fn answer(
     line: &[u8],
     out: &mut Output,
 ) {
-    // No such line comes here. The test stays: without it the compiler joins two functions, and the same calls take twice as long.
-    if 65535 < line.len() {
-        faults::long_line(rt, lines);
-        put_long_line(out);
-        return;
-    }
     match call_text::call_of(line) {
         Ok(None) => {}
         Err(why) => bad_line(rt, lines, line, why, out),
