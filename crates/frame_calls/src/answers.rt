@@ -138,7 +138,8 @@ fn bad_line(rt: HostRuntime, lines: usize, line: &[u8], why: BadLine, out: &mut 
     put_bad_line(out);
 }
 
-// `lines` is the line's number. No plainer with the runtime and the output as one: two parameters, of which one is lent to be changed.
+// `lines` is the line's number. No plainer with the runtime and the output in a struct: the runtime is copied and only the
+// output changes, and nearly every function here takes the output alone.
 pub(crate) fn answer(
     rt: HostRuntime,
     frame: &mut Frame,
