@@ -2,8 +2,8 @@
 
 use crate::faults;
 use crate::text::{
-    Output, put_bad_line, put_counted, put_head, put_keyword, put_number, put_part,
-    put_run, put_two, put_written,
+    Output, put_bad_line, put_counted, put_head, put_keyword, put_number, put_part, put_run,
+    put_two, put_written,
 };
 use arrayvec::ArrayVec;
 use call_text::{BadLine, Call};
@@ -16,6 +16,7 @@ use sheets::Edition;
 
 // What a buffer holds at most.
 const BYTES: usize = 4096;
+
 const SAMPLES: usize = 1024;
 
 fn units_of<T: Unit + Default, const N: usize>(field: &[u8]) -> ArrayVec<T, N> {
@@ -77,11 +78,17 @@ fn convert(wanted: Edition, sheet: &[u8], output: &[u8], out: &mut Output) {
 // ---- the calls over a sheet, which touch no frame
 
 fn check(sheet: &[u8], entry: usize, out: &mut Output) {
-    put_number(out, sheets::check_entry(units_of::<u8, BYTES>(sheet).as_slice(), entry));
+    put_number(
+        out,
+        sheets::check_entry(units_of::<u8, BYTES>(sheet).as_slice(), entry),
+    );
 }
 
 fn lookup(sheet: &[u8], entry: usize, out: &mut Output) {
-    put_part(out, sheets::lookup(units_of::<u8, BYTES>(sheet).as_slice(), entry));
+    put_part(
+        out,
+        sheets::lookup(units_of::<u8, BYTES>(sheet).as_slice(), entry),
+    );
 }
 
 fn check_edition_one(sheet: &[u8], entry: usize, out: &mut Output) {
