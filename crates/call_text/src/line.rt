@@ -4,7 +4,7 @@ ghost use Rattle.std.specs.Prelude.{◌≡◌, option_map, option_copied};
 ghost use Rattle.form_text.specs.Field.{fields_left};
 ghost use Rattle.call_text.specs.Line.{one_number, two_numbers, one_buffer, buffer_and_number, convert_call, run_call, two_call, call_for, call_of, text_pair, text_call, text_answer};
 
-use crate::buffer::{bytes_field, samples_field};
+use crate::buffer::units_field;
 use crate::edition::edition_of;
 use crate::keyword::{Keyword, keyword_of};
 use digits::number_of;
@@ -81,55 +81,44 @@ pub enum BadLine {
 // Each reader below has words of its own behind the keyword. One for any two words would take two readers of a word, and be no shorter.
 
 // HEAD
-fn one_number(mut fields: Fields<'_>) -> Option<usize>
+fn one_number(fields: Fields<'_>) -> Option<usize>
     ensures { result ≡ one_number (fields_left fields.entry) }
 {
-    let n = fields.next()?;
-    fields.end()?;
-    number_of(n)
+    number_of(fields.one()?)
 }
 
 // HEAD ENTRY, HEAD MARK
-fn two_numbers(mut fields: Fields<'_>) -> Option<(usize, usize)>
+fn two_numbers(fields: Fields<'_>) -> Option<(usize, usize)>
     ensures { result ≡ two_numbers (fields_left fields.entry) }
 {
-    let head = fields.next()?;
-    let n = fields.next()?;
-    fields.end()?;
+    let (head, n) = fields.two()?;
     Some((number_of(head)?, number_of(n)?))
 }
 
 // BYTES
-fn one_buffer<'a>(mut fields: Fields<'a>) -> Option<&'a [u8]>
+fn one_buffer<'a>(fields: Fields<'a>) -> Option<&'a [u8]>
     ensures { option_copied result ≡ one_buffer (fields_left fields.entry) }
 {
-    let b = fields.next()?;
-    fields.end()?;
-    bytes_field(b)
+    units_field::<u8>(fields.one()?)
 }
 
 // BYTES ENTRY
-fn buffer_and_number<'a>(mut fields: Fields<'a>) -> Option<(&'a [u8], usize)>
+fn buffer_and_number<'a>(fields: Fields<'a>) -> Option<(&'a [u8], usize)>
     ensures { option_map text_pair result ≡ buffer_and_number (fields_left fields.entry) }
 {
-    let b = fields.next()?;
-    let n = fields.next()?;
-    fields.end()?;
-    Some((bytes_field(b)?, number_of(n)?))
+    let (b, n) = fields.two()?;
+    Some((units_field::<u8>(b)?, number_of(n)?))
 }
 
 // EDITION BYTES BYTES
-fn convert_call<'a>(mut fields: Fields<'a>) -> Option<Call<&'a [u8]>>
+fn convert_call<'a>(fields: Fields<'a>) -> Option<Call<&'a [u8]>>
     ensures { option_map text_call result ≡ convert_call (fields_left fields.entry) }
 {
-    let wanted = fields.next()?;
-    let sheet = fields.next()?;
-    let target = fields.next()?;
-    fields.end()?;
+    let (wanted, sheet, target) = fields.three()?;
     Some(Call::Convert {
         wanted: edition_of(wanted)?,
-        sheet: bytes_field(sheet)?,
-        output: bytes_field(target)?,
+        sheet: units_field::<u8>(sheet)?,
+        output: units_field::<u8>(target)?,
     })
 }
 
@@ -138,15 +127,12 @@ fn run_call<'a>(mut fields: Fields<'a>) -> Option<Call<&'a [u8]>>
     ensures { option_map text_call result ≡ run_call (fields_left fields.entry) }
 {
     let head = fields.next()?;
-    let form = fields.next()?;
-    let input = fields.next()?;
-    let output = fields.next()?;
-    fields.end()?;
+    let (form, input, output) = fields.three()?;
     Some(Call::Run {
         head: number_of(head)?,
         form: form_of(form)?,
-        input: samples_field(input)?,
-        output: samples_field(output)?,
+        input: units_field::<f32>(input)?,
+        output: units_field::<f32>(output)?,
     })
 }
 
@@ -156,16 +142,13 @@ fn two_call<'a>(mut fields: Fields<'a>) -> Option<Call<&'a [u8]>>
 {
     let head = fields.next()?;
     let form = fields.next()?;
-    let input = fields.next()?;
-    let first = fields.next()?;
-    let second = fields.next()?;
-    fields.end()?;
+    let (input, first, second) = fields.three()?;
     Some(Call::Two {
         head: number_of(head)?,
         form: form_of(form)?,
-        input: samples_field(input)?,
-        first: samples_field(first)?,
-        second: samples_field(second)?,
+        input: units_field::<f32>(input)?,
+        first: units_field::<f32>(first)?,
+        second: units_field::<f32>(second)?,
     })
 }
 

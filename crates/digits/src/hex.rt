@@ -27,6 +27,7 @@ pub fn all_hex(s: &[u8]) -> bool
 }
 
 // The byte of two digits. Any other byte of text counts as the digit 0, so that reading is total: `all_hex` says whether there are any.
+// By hand, since the kit's hex crate answers an error for such a byte, and char::to_digit none.
 fn pair(high: u8, low: u8) -> u8
     ensures { result ≡ pair_of high low }
 {

@@ -6,6 +6,8 @@ ghost use Rattle.digits.specs.Text.{glyph_of, byte_text, word_text, units_text};
 use crate::unit::Unit;
 use arrayvec::ArrayVec;
 
+// By hand, since the kit's hex crate answers a Result, as its buffer may be of another length. These texts have always room, and go into an
+// ArrayVec that may be too short.
 fn glyph(d: u32) -> u8
     requires { d < 16 }
     ensures { result ≡ glyph_of d }

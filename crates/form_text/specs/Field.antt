@@ -16,6 +16,19 @@ fields_of separator (x ∷ s) = cond (eqb x separator) ([] ∷ fields_of separat
 abbrev pub fields_left : Fields → List (List ℕ)
 fields_left f = elim f.rest [ None ↦ [] | Some s ↦ fields_of f.separator s.now ]
 
+-- the fields where there are exactly as many
+abbrev pub one_field : List (List ℕ) → Option (List ℕ)
+one_field (f ∷ []) = Some f
+one_field _ = None
+
+abbrev pub two_fields : List (List ℕ) → Option (List ℕ × List ℕ)
+two_fields (f ∷ g ∷ []) = Some (f, g)
+two_fields _ = None
+
+abbrev pub three_fields : List (List ℕ) → Option (List ℕ × List ℕ × List ℕ)
+three_fields (f ∷ g ∷ h ∷ []) = Some (f, g, h)
+three_fields _ = None
+
 -- f of the values, where each is there
 abbrev pub of_two : {A B C : Type 0} → (A → B → C) → Option A → Option B → Option C
 of_two f None b = None

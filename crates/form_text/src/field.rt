@@ -1,7 +1,7 @@
 // A text split at a separator.
 
-ghost use Rattle.std.specs.Prelude.{◌≡◌, ℕ, List, [], ◌∷◌, MatchOption};
-ghost use Rattle.form_text.specs.Field.{fields_of, fields_left};
+ghost use Rattle.std.specs.Prelude.{◌≡◌, ℕ, List, [], ◌∷◌, MatchOption, None};
+ghost use Rattle.form_text.specs.Field.{fields_of, fields_left, one_field, two_fields, three_fields};
 
 // The fields of a text, taken one after the other. The rest is the text of those that are not taken yet; there is none when all are.
 #[derive(Clone, Copy)]
@@ -48,5 +48,31 @@ impl<'a> Fields<'a> {
             Some(_) => None,
             None => Some(()),
         }
+    }
+
+    // What is left, where it is exactly one field, exactly two or exactly three. No plainer as arrays: a field would have no name in the clause.
+
+    pub fn one(mut self) -> Option<&'a [u8]>
+        ensures { MatchOption result (one_field (fields_left self.entry) ≡ None) (λ f. fields_left self.entry ≡ f.now ∷ []) }
+    {
+        let first = self.next()?;
+        self.end()?;
+        Some(first)
+    }
+
+    pub fn two(mut self) -> Option<(&'a [u8], &'a [u8])>
+        ensures { MatchOption result (two_fields (fields_left self.entry) ≡ None) (λ p. fields_left self.entry ≡ p.0.now ∷ p.1.now ∷ []) }
+    {
+        let first = self.next()?;
+        let second = self.one()?;
+        Some((first, second))
+    }
+
+    pub fn three(mut self) -> Option<(&'a [u8], &'a [u8], &'a [u8])>
+        ensures { MatchOption result (three_fields (fields_left self.entry) ≡ None) (λ p. fields_left self.entry ≡ p.0.now ∷ p.1.now ∷ p.2.now ∷ []) }
+    {
+        let first = self.next()?;
+        let (second, third) = self.two()?;
+        Some((first, second, third))
     }
 }

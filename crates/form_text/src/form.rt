@@ -34,65 +34,50 @@ fn value_of(s: &[u8]) -> Option<f32>
 
 // A function for each form, since each has other values behind its name. One for all would take a reader for each value, and be no shorter.
 
-fn plain_form(mut fields: Fields<'_>) -> Option<RunForm>
+fn plain_form(fields: Fields<'_>) -> Option<RunForm>
     ensures { result ≡ plain_form (fields_left fields.entry) }
 {
-    let mode = fields.next()?;
-    fields.end()?;
-    Some(RunForm::Plain(mode_of(mode)?))
+    Some(RunForm::Plain(mode_of(fields.one()?)?))
 }
 
-fn gain_form(mut fields: Fields<'_>) -> Option<RunForm>
+fn gain_form(fields: Fields<'_>) -> Option<RunForm>
     ensures { result ≡ gain_form (fields_left fields.entry) }
 {
-    let mode = fields.next()?;
-    let gain = fields.next()?;
-    fields.end()?;
+    let (mode, gain) = fields.two()?;
     Some(RunForm::Gain(mode_of(mode)?, value_of(gain)?))
 }
 
-fn stride_form(mut fields: Fields<'_>) -> Option<RunForm>
+fn stride_form(fields: Fields<'_>) -> Option<RunForm>
     ensures { result ≡ stride_form (fields_left fields.entry) }
 {
-    let mode = fields.next()?;
-    let step = fields.next()?;
-    fields.end()?;
+    let (mode, step) = fields.two()?;
     Some(RunForm::Stride(mode_of(mode)?, number_of(step)?))
 }
 
-fn multimode_form(mut fields: Fields<'_>) -> Option<RunForm>
+fn multimode_form(fields: Fields<'_>) -> Option<RunForm>
     ensures { result ≡ multimode_form (fields_left fields.entry) }
 {
-    let word = fields.next()?;
-    fields.end()?;
-    Some(RunForm::Multimode(value_of(word)?))
+    Some(RunForm::Multimode(value_of(fields.one()?)?))
 }
 
-fn decimate_form(mut fields: Fields<'_>) -> Option<RunForm>
+fn decimate_form(fields: Fields<'_>) -> Option<RunForm>
     ensures { result ≡ decimate_form (fields_left fields.entry) }
 {
-    let mode = fields.next()?;
-    let step = fields.next()?;
-    fields.end()?;
+    let (mode, step) = fields.two()?;
     Some(RunForm::Decimate(mode_of(mode)?, number_of(step)?))
 }
 
-fn gains_form(mut fields: Fields<'_>) -> Option<RunForm>
+fn gains_form(fields: Fields<'_>) -> Option<RunForm>
     ensures { result ≡ gains_form (fields_left fields.entry) }
 {
-    let mode = fields.next()?;
-    let first = fields.next()?;
-    let second = fields.next()?;
-    fields.end()?;
+    let (mode, first, second) = fields.three()?;
     Some(RunForm::Gains(mode_of(mode)?, value_of(first)?, value_of(second)?))
 }
 
-fn pair_form(mut fields: Fields<'_>) -> Option<RunForm>
+fn pair_form(fields: Fields<'_>) -> Option<RunForm>
     ensures { result ≡ pair_form (fields_left fields.entry) }
 {
-    let first = fields.next()?;
-    let second = fields.next()?;
-    fields.end()?;
+    let (first, second) = fields.two()?;
     Some(RunForm::Pair(mode_of(first)?, mode_of(second)?))
 }
 

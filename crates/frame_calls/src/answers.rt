@@ -2,27 +2,27 @@
 
 use crate::faults;
 use crate::text::{
-    Output, put_bad_line, put_counted, put_head, put_keyword, put_long_line, put_number, put_part,
-    put_run, put_two, put_written,
+    Output, put_bad_line, put_counted, put_head, put_keyword, put_number, put_part, put_run,
+    put_two, put_written,
 };
 use arrayvec::ArrayVec;
 use call_text::{BadLine, Call};
+use digits::Unit;
 use frame::Frame;
 use runs::RunForm;
 use sheets::Edition;
 
 // ---- the buffers of a call
 
-fn bytes_of(field: &[u8]) -> ArrayVec<u8, 4096> {
-    let mut bytes = ArrayVec::new();
-    digits::units(field, &mut bytes);
-    bytes
-}
+// What a buffer holds at most.
+const BYTES: usize = 4096;
 
-fn samples_of(field: &[u8]) -> ArrayVec<f32, 1024> {
-    let mut samples = ArrayVec::new();
-    digits::units(field, &mut samples);
-    samples
+const SAMPLES: usize = 1024;
+
+fn units_of<T: Unit + Default, const N: usize>(field: &[u8]) -> ArrayVec<T, N> {
+    let mut units = ArrayVec::new();
+    digits::units(field, &mut units);
+    units
 }
 
 // ---- the calls that lend one to write to
@@ -35,8 +35,8 @@ fn run(
     output: &[u8],
     out: &mut Output,
 ) {
-    let input = samples_of(input);
-    let mut output = samples_of(output);
+    let input = units_of::<f32, SAMPLES>(input);
+    let mut output = units_of::<f32, SAMPLES>(output);
     let answer = frame.run(head, form, input.as_slice(), output.as_mut_slice());
     put_run(out, answer, output.as_slice());
 }
@@ -49,9 +49,9 @@ fn run_two(
     outputs: (&[u8], &[u8]),
     out: &mut Output,
 ) {
-    let input = samples_of(input);
-    let mut first = samples_of(outputs.0);
-    let mut second = samples_of(outputs.1);
+    let input = units_of::<f32, SAMPLES>(input);
+    let mut first = units_of::<f32, SAMPLES>(outputs.0);
+    let mut second = units_of::<f32, SAMPLES>(outputs.1);
     let answer = frame.run_two(
         head,
         form,
@@ -63,14 +63,14 @@ fn run_two(
 }
 
 fn write(frame: &Frame, output: &[u8], out: &mut Output) {
-    let mut output = bytes_of(output);
+    let mut output = units_of::<u8, BYTES>(output);
     let answer = frame.write(output.as_mut_slice());
     put_written(out, answer, output.as_slice());
 }
 
 fn convert(wanted: Edition, sheet: &[u8], output: &[u8], out: &mut Output) {
-    let sheet = bytes_of(sheet);
-    let mut output = bytes_of(output);
+    let sheet = units_of::<u8, BYTES>(sheet);
+    let mut output = units_of::<u8, BYTES>(output);
     let answer = conversion::convert(wanted, sheet.as_slice(), output.as_mut_slice());
     put_written(out, answer, output.as_slice());
 }
@@ -78,15 +78,21 @@ fn convert(wanted: Edition, sheet: &[u8], output: &[u8], out: &mut Output) {
 // ---- the calls over a sheet, which touch no frame
 
 fn check(sheet: &[u8], entry: usize, out: &mut Output) {
-    put_number(out, sheets::check_entry(bytes_of(sheet).as_slice(), entry));
+    put_number(
+        out,
+        sheets::check_entry(units_of::<u8, BYTES>(sheet).as_slice(), entry),
+    );
 }
 
 fn lookup(sheet: &[u8], entry: usize, out: &mut Output) {
-    put_part(out, sheets::lookup(bytes_of(sheet).as_slice(), entry));
+    put_part(
+        out,
+        sheets::lookup(units_of::<u8, BYTES>(sheet).as_slice(), entry),
+    );
 }
 
 fn check_edition_one(sheet: &[u8], entry: usize, out: &mut Output) {
-    let sheet = bytes_of(sheet);
+    let sheet = units_of::<u8, BYTES>(sheet);
     put_number(
         out,
         sheets::check_entry_edition_one(sheet.as_slice(), entry),
@@ -94,13 +100,13 @@ fn check_edition_one(sheet: &[u8], entry: usize, out: &mut Output) {
 }
 
 fn lookup_edition_one(sheet: &[u8], entry: usize, out: &mut Output) {
-    let sheet = bytes_of(sheet);
+    let sheet = units_of::<u8, BYTES>(sheet);
     put_part(out, sheets::lookup_edition_one(sheet.as_slice(), entry));
 }
 
 fn of_call(call: Call<&[u8]>, frame: &mut Frame, out: &mut Output) {
     match call {
-        Call::Open(sheet) => put_number(out, frame.open(bytes_of(sheet).as_slice())),
+        Call::Open(sheet) => put_number(out, frame.open(units_of::<u8, BYTES>(sheet).as_slice())),
         Call::Load { head, entry } => put_number(out, frame.load(head, entry)),
         Call::Run {
             head,
@@ -139,7 +145,8 @@ fn bad_line(rt: HostRuntime, lines: usize, line: &[u8], why: BadLine, out: &mut 
     put_bad_line(out);
 }
 
-// `lines` is the line's number. No plainer with the runtime and the output as one: two parameters, of which one is lent to be changed.
+// `lines` is the line's number. No plainer with the runtime and the output in a struct: the runtime is copied and only the
+// output changes, and nearly every function here takes the output alone.
 pub(crate) fn answer(
     rt: HostRuntime,
     frame: &mut Frame,
@@ -147,12 +154,6 @@ pub(crate) fn answer(
     line: &[u8],
     out: &mut Output,
 ) {
-    // No such line comes here. The test stays: without it the compiler joins two functions, and the same calls take twice as long.
-    if 65535 < line.len() {
-        faults::long_line(rt, lines);
-        put_long_line(out);
-        return;
-    }
     match call_text::call_of(line) {
         Ok(None) => {}
         Err(why) => bad_line(rt, lines, line, why, out),

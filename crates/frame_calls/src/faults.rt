@@ -7,6 +7,7 @@ use std::io::Write;
 
 type Fault = ArrayVec<u8, 160>;
 
+// No plainer as a Display of the reason: what is said depends on the line too.
 fn why(line: &[u8], why: BadLine) -> &'static str {
     if line.last() == Some(&b'\r') {
         return "it ends in a carriage return (a file from Windows?): take them out with tr -d '\\r'";

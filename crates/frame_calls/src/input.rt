@@ -42,7 +42,8 @@ fn fill(rt: HostRuntime, held: &mut Held) -> io::Result<usize> {
 }
 
 // Each step answers None where nothing more is to be read: the input has ended or failed, or the output takes no more.
-// No plainer with the runtime and the output as one: two parameters, of which one is lent to be changed.
+// No plainer with the runtime and the output in a struct: the runtime is copied and only the output changes, and nearly every function
+// here would still name both.
 impl Session {
     // The count of lines stays at the greatest number, if a run should ever come there.
     fn next_line(&mut self) -> usize {

@@ -1,43 +1,48 @@
 // A head as text: the type of its filter and the retained numbers in the source's declared order, with colons between.
 
 use crate::text::Output;
-use any_filter::{Filter, FilterType};
-use digits::{Unit, put};
+use any_filter::FilterType;
 use heads::{Head, Snapshot};
+use std::fmt::{Display, Formatter};
+use std::io::Write;
+use std::{fmt, num};
 
-fn name(filter: FilterType) -> &'static [u8] {
+fn name(filter: FilterType) -> &'static str {
     match filter {
-        FilterType::DcBlocker => b"dc",
-        FilterType::OnePole => b"onepole",
-        FilterType::Svf => b"svf",
-        FilterType::NaiveSvf => b"naive",
-        FilterType::ModifiedSvf => b"modified",
-        FilterType::CrossoverSvf => b"crossover",
+        FilterType::DcBlocker => "dc",
+        FilterType::OnePole => "onepole",
+        FilterType::Svf => "svf",
+        FilterType::NaiveSvf => "naive",
+        FilterType::ModifiedSvf => "modified",
+        FilterType::CrossoverSvf => "crossover",
     }
 }
 
-fn put_filter(out: &mut Output, filter: &Filter) {
-    let filter_type = filter.filter_type();
-    put(out, name(filter_type));
-    for x in filter.fields().iter().take(filter_type.field_count()) {
-        put(out, b":");
-        put(out, x.text().as_slice());
-    }
-}
+// What a head or a mark holds, as text.
+#[derive(Clone, Copy)]
+struct Shown<'a>(&'a Snapshot);
 
-// A space, and what the head or a mark holds.
-fn put_snapshot(out: &mut Output, s: &Snapshot) {
-    put(out, b" ");
-    match &s.filter {
-        Some(filter) => put_filter(out, filter),
-        None => put(out, b"empty"),
+impl Display for Shown<'_> {
+    fn fmt<W: fmt::Write>(&self, f: &mut Formatter<W>) -> fmt::Result {
+        let Some(filter) = &self.0.filter else {
+            return f.write_str("empty");
+        };
+        let filter_type = filter.filter_type();
+        f.write_str(name(filter_type))?;
+        for x in filter.fields().iter().take(filter_type.field_count()) {
+            let word = num::f32_to_bits_with_nan(*x);
+            write!(f, ":{word:08x}")?;
+        }
+        Ok(())
     }
 }
 
 // What the head holds, then its marks, oldest first.
 pub(crate) fn put_head(out: &mut Output, head: &Head) {
-    put_snapshot(out, &head.now);
+    let now = Shown(&head.now);
+    let _ = write!(out, " {now}");
     for mark in head.marks.as_slice() {
-        put_snapshot(out, mark);
+        let mark = Shown(mark);
+        let _ = write!(out, " {mark}");
     }
 }

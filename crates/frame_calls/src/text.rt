@@ -1,7 +1,7 @@
 // The text of an answer: the line's keyword, which is put before the call is made, then the refusal's number and what the call hands back.
 
 use arrayvec::ArrayVec;
-use digits::put;
+use digits::{Unit, put};
 use filter_core::{Refusal, number_in};
 use form_text::Fields;
 use heads::Head;
@@ -28,10 +28,10 @@ fn put_answer(out: &mut Output, answer: Result<usize, Refusal>) {
     }
 }
 
-// A space and the samples.
-fn put_spaced(out: &mut Output, samples: &[f32]) {
+// A space and the bytes or samples.
+fn put_spaced<T: Unit>(out: &mut Output, units: &[T]) {
     put(out, b" ");
-    digits::put_units(out, samples);
+    digits::put_units(out, units);
 }
 
 pub(crate) fn put_keyword(out: &mut Output, line: &[u8]) {
@@ -68,15 +68,13 @@ pub(crate) fn put_head(out: &mut Output, answer: Result<&Head, Refusal>) {
 
 pub(crate) fn put_written(out: &mut Output, answer: Result<usize, Refusal>, bytes: &[u8]) {
     put_answer(out, answer);
-    put(out, b" ");
-    digits::put_units(out, bytes);
+    put_spaced(out, bytes);
     put(out, b"\n");
 }
 
 // The part of a sheet that a lookup lends; none where it is refused.
 pub(crate) fn put_part(out: &mut Output, part: Result<&[u8], Refusal>) {
-    put(out, b" ");
-    digits::put_units(out, part.unwrap_or(b""));
+    put_spaced(out, part.unwrap_or(b""));
     put(out, b"\n");
 }
 

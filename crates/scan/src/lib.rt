@@ -12,7 +12,7 @@ pub fn find(s: &[u8], from: usize, byte: u8) -> Option<usize>
     ensures in_bounds { IfSome result (λ k. (from ≤ k) × (k < length s.now)) }
 {
     let rest = s.get(from..)?;
-    // A match and not `?`: it is no longer with a name for each case, and the proof speaks of each by its name.
+    // A match and not `?`: the proof speaks of each case by its name, and the two wrong programs of this function are refused by these facts.
     match memchr(byte, rest) {
         Some(k) => Some(from + k),
         None => None,
