@@ -78,7 +78,7 @@ pub enum BadLine {
     Words,
 }
 
-// Each reader below has words of its own behind the keyword. One for any two words would take two readers of a word, and be no shorter.
+// Each reader below has words of its own behind the keyword: one for any two words would be told how each is read, and be no shorter.
 
 // HEAD
 fn one_number(fields: Fields<'_>) -> Option<usize>

@@ -32,7 +32,7 @@ fn value_of(s: &[u8]) -> Option<f32>
     None
 }
 
-// A function for each form, since each has other values behind its name. One for all would take a reader for each value, and be no shorter.
+// A function for each form, of two lines at most: one for all would be told how each of its values is read, and be no shorter.
 
 fn plain_form(fields: Fields<'_>) -> Option<RunForm>
     ensures { result ≡ plain_form (fields_left fields.entry) }
