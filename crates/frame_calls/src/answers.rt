@@ -75,7 +75,7 @@ fn convert(wanted: Edition, sheet: &[u8], output: &[u8], out: &mut Output) {
     put_written(out, answer, output.as_slice());
 }
 
-// ---- the calls over a sheet, which touch no frame
+// ---- the calls over a sheet, which touch no frame. No plainer as one, which would be told what is asked and how the answer is put.
 
 fn check(sheet: &[u8], entry: usize, out: &mut Output) {
     put_number(
