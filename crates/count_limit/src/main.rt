@@ -213,7 +213,11 @@ impl Trial {
             let _ = self.frame.back(HEAD, 0);
         }
         self.say("up to 100 samples, accepted ", tried.accepted, 0);
-        self.say("above 100 samples, refused ", tried.refused, u8::from(Refusal::Count));
+        self.say(
+            "above 100 samples, refused ",
+            tried.refused,
+            u8::from(Refusal::Count),
+        );
     }
 
     // To one sample short of the limit, with a mark there, and one with 100 samples left.
