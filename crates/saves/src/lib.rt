@@ -14,7 +14,7 @@ use filter_core::Refusal;
 use library::Library;
 
 // The sheet's bytes, and how many of them were taken. The longest sheet has 834.
-#[derive(Clone, Debug, Default, Drop, PartialEq, Eq)]
+#[derive(Clone, Debug, Drop, PartialEq, Eq)]
 pub struct Save {
     pub bytes: ArrayVec<u8, 834>,
     pub taken: usize,
@@ -65,11 +65,11 @@ fn begun_with(library: &Library) -> Result<Save, Refusal>
 }
 
 impl Save {
-    // No save was begun.
+    // No save was begun. Made by `untaken`, as a begun one is: what is taken at first is said once.
     pub fn none() -> Save
         ensures { result ≡ no_save }
     {
-        Save::default()
+        untaken(ArrayVec::new())
     }
 
     // No call makes a save of which more is taken than there is; all the same the contract is for every save.
