@@ -1,22 +1,22 @@
 -- What the parts of a save come to. Assumes nothing.
 use Prim.Native.Nat.{ℕ, ◌-◌, ◌<◌, ◌≤◌}
-use mathlib.Core.Path.{◌≡◌, refl, sym, ap, ◌∙◌}
+use mathlib.Core.Path.{◌≡◌, refl, ap, ◌∙◌}
 use mathlib.Core.List.{List, []}
 use mathlib.Core.Logic.{⊎_elim}
-use native.Mathlib.Nat.{zero-min, add-zero}
+use native.Mathlib.Nat.{zero-min}
 use native.Mathlib.Omega.{arith}
 use borrow.Author.Tests.{eq-eqb, ne_eqb, le-ltb}
 use lib.ListN.{length, take, drop, take-append-drop, drop_of_length-le}
-use lib.Seq.{drop-drop, take-append_seam}
+use lib.Seq.{take-append_seam}
 use Rattle.std.proofs.lemmas.Bool.{cases_lt}
-use Rattle.lists.specs.Over.{room, over}
+use Rattle.lists.specs.Over.{over}
 use Rattle.lists.proofs.Over.{over_none, drop_room, over_written, over_kept}
 use Rattle.sheets.specs.Rows.{Sheet}
 use Rattle.library.specs.Library.{library_of, written_of}
 use Rattle.library.specs.declared.Library.{Library}
 use Rattle.library.proofs.RoundTrip.{rewritten}
 use Rattle.saves.proofs.Zeros.{length_zero_bytes}
-use Rattle.saves.specs.Save.{zero_bytes, left_of, begin_refusal, begun_with, advanced_by, begin_of, take_refusal, take_length, take_of}
+use Rattle.saves.specs.Save.{zero_bytes, left_of, begin_refusal, begun_with, begin_of, take_refusal, take_length, take_of}
 use Rattle.saves.specs.Parts.{part_of, Part, TakeLeaves, Parts}
 use Rattle.saves.specs.declared.Save.{Save}
 
@@ -24,7 +24,6 @@ use Rattle.saves.specs.declared.Save.{Save}
 
 -- what is left of the library of a sheet, written into zeros, is the sheet
 pub left_begun : (s : List ℕ) → Sheet s → left_of (begun_with (library_of s)) ≡ s
-unfolding left_of
 left_begun s h =
     let l = h.size.fits.long in
     let m = h.size.fits.most in
@@ -40,14 +39,10 @@ module _ (v : Save) (l : Library) where
 
 -- ---- take
 
-left_advanced : (k : ℕ) (v : Save) → left_of (advanced_by k v) ≡ drop k (left_of v)
-unfolding left_of
-left_advanced k v = sym (drop-drop k v.taken v.bytes.items)
-
 module _ (v : Save) (out : List ℕ) where
   -- less by what has room
   pub left_taken : left_of (take_of v out) ≡ drop (length out) (left_of v)
-  left_taken = left_advanced (room 0 (left_of v) out) v ∙ drop_room (left_of v) out
+  left_taken = drop_room (left_of v) out
 
   full : (left_of (take_of v out) ≡ [] → ⊥) → take_length v out ≡ length out
   full z =
@@ -75,14 +70,13 @@ module _ (v : Save) (out : List ℕ) where
       (cases_lt (length (left_of v)) 1)
 
   pub take_refused : (take_refusal v ≡ 0 → ⊥) → TakeLeaves v out
-  take_refused z = let e = none_left z in record { length = rw (e, zero-min (length out - 0)) refl; save = rw (e, zero-min (length out - 0), add-zero v.taken) refl; output = rw e (over_none 0 out) }
+  take_refused z = let e = none_left z in record { length = rw (e, zero-min (length out - 0)) refl; save = rw e (rw (zero-min (length out - 0)) refl); output = rw e (over_none 0 out) }
 
 -- so the code need not write
 pub nothing_taken : (v : Save) (out : List ℕ) → length (left_of v) < 1 → over 0 (left_of v) out ≡ out
 nothing_taken v out h = let e : left_of v ≡ [] = drop_of_length-le (left_of v) {i = 0} (omega arith) in rw e (over_none 0 out)
 
 pub parts : Parts
-unfolding left_of
 parts =
     record {
       none = refl;

@@ -1,5 +1,5 @@
--- A save of the library (02 h): the bytes of its sheet as it stood when the save began, and how many of them were taken.
-use Rattle.std.specs.Prelude.{ℕ, ◌+◌, cond, List, [], ltb, length, take, drop, replicate}
+-- A save of the library (02 h): the bytes that are left to take, of its sheet as it stood when the save began.
+use Rattle.std.specs.Prelude.{ℕ, cond, List, [], ltb, length, take, drop, replicate}
 use Rattle.filter_core.specs.Refusal.{unless_refused}
 use Rattle.filter_core.specs.Rows.{◌then◌}
 use Rattle.lists.specs.Over.{room, over}
@@ -11,17 +11,16 @@ use Rattle.saves.specs.declared.Save.{Save}
 unfoldable pub zero_bytes : ℕ → List ℕ
 zero_bytes m = replicate m 0
 
--- a save of these bytes, none of which is taken
-abbrev pub untaken : List ℕ → Save
-untaken s = record { bytes = record { items = s }; taken = 0 }
+-- a save of which these bytes are left to take
+abbrev pub with_left : List ℕ → Save
+with_left s = record { left = record { items = s } }
 
 -- no save was begun
 abbrev pub no_save : Save
-no_save = untaken []
+no_save = with_left []
 
--- the bytes that are left to take
-unfoldable pub left_of : Save → List ℕ
-left_of v = drop v.taken v.bytes.items
+abbrev pub left_of : Save → List ℕ
+left_of v = v.left.items
 
 -- ---- the refusals of 02 h, where k bytes are left
 
@@ -45,7 +44,7 @@ begin_refusal k l = begin_number k (write_number l (zero_bytes 834))
 
 -- the library as a write puts it over zeros
 abbrev pub begun_with : Library → Save
-begun_with l = untaken (take (sheet_length l) (written_of l (zero_bytes 834)))
+begun_with l = with_left (take (sheet_length l) (written_of l (zero_bytes 834)))
 
 -- the save after a begin
 abbrev pub begin_of : Save → Library → Save
@@ -60,13 +59,9 @@ take_refusal v = finished_refusal (length (left_of v))
 abbrev pub take_length : Save → List ℕ → ℕ
 take_length v out = room 0 (left_of v) out
 
--- k bytes more are taken
-abbrev pub advanced_by : ℕ → Save → Save
-advanced_by k v = record { bytes = v.bytes; taken = v.taken + k }
-
--- the save after a take
+-- the save after a take, which ends when its last byte is taken
 abbrev pub take_of : Save → List ℕ → Save
-take_of v out = advanced_by (room 0 (left_of v) out) v
+take_of v out = with_left (drop (room 0 (left_of v) out) (left_of v))
 
 -- the output after a take
 abbrev pub taken_of : Save → List ℕ → List ℕ

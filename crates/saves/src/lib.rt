@@ -2,10 +2,10 @@
 // meantime does not reach it.
 #![tactic(auto)]
 
-ghost use Rattle.std.specs.Prelude.{◌≡◌, ◌-◌, ◌≤◌, length, IfOk};
+ghost use Rattle.std.specs.Prelude.{◌≡◌, length, IfOk};
 ghost use Rattle.filter_core.specs.Refusal.{number_in};
 ghost use Rattle.library.specs.Library.{write_number};
-ghost use Rattle.saves.specs.Save.{zero_bytes, untaken, no_save, left_of, unfinished_refusal, finished_refusal, begun_with, begin_refusal, begin_of, take_refusal, take_length, take_of, taken_of};
+ghost use Rattle.saves.specs.Save.{zero_bytes, no_save, left_of, unfinished_refusal, finished_refusal, begun_with, begin_refusal, begin_of, take_refusal, take_length, take_of, taken_of};
 ghost use Rattle.saves.specs.Rows.{SavesByRows};
 ghost use Rattle.saves.specs.Parts.{Parts};
 
@@ -13,11 +13,11 @@ use arrayvec::ArrayVec;
 use filter_core::Refusal;
 use library::Library;
 
-// The sheet's bytes, and how many of them were taken. The longest sheet has 834.
+// The bytes of its sheet that are left to take; the longest sheet has 834. A part is taken off the front, which moves what is behind it:
+// so what a save holds says all of it, and no save is behind its own end.
 #[derive(Clone, Debug, Drop, PartialEq, Eq)]
 pub struct Save {
-    pub bytes: ArrayVec<u8, 834>,
-    pub taken: usize,
+    pub left: ArrayVec<u8, 834>,
 }
 
 // ---- the refusals, where so many bytes are left to take
@@ -44,13 +44,6 @@ fn check_finished(left: usize) -> Result<(), Refusal>
 
 // ---- a save, and what is left of it
 
-// A save of which nothing is taken yet.
-fn untaken(bytes: ArrayVec<u8, 834>) -> Save
-    ensures { result ≡ untaken bytes.items }
-{
-    Save { bytes, taken: 0 }
-}
-
 // A save of the library's sheet.
 #[tactic(auto, unfolding(crate::specs::Save::zero_bytes))]
 fn begun_with(library: &Library) -> Result<Save, Refusal>
@@ -59,35 +52,19 @@ fn begun_with(library: &Library) -> Result<Save, Refusal>
 {
     let mut sheet = [0; 834];
     let length = library::write(library, &mut sheet)?;
-    let mut bytes = ArrayVec::from(sheet);
-    bytes.truncate(length);
-    Ok(untaken(bytes))
+    let mut left = ArrayVec::from(sheet);
+    left.truncate(length);
+    Ok(Save { left })
 }
 
 impl Save {
-    // No save was begun. Made by `untaken`, as a begun one is: what is taken at first is said once.
+    // No save was begun.
     pub fn none() -> Save
         ensures { result ≡ no_save }
     {
-        untaken(ArrayVec::new())
-    }
-
-    // No call makes a save of which more is taken than there is; all the same the contract is for every save.
-    #[tactic(auto, unfolding(crate::specs::Save::left_of))]
-    fn left(&self) -> &[u8]
-        ensures value { result.now ≡ left_of self.now }
-        ensures fits { length result.now ≤ 834 - self.now.taken }
-    {
-        let bytes = self.bytes.as_slice();
-        &bytes[self.taken.min(bytes.len())..]
-    }
-
-    // How many bytes are left to take; the save is unfinished while there are some.
-    #[tactic(auto, unfolding(crate::specs::Save::left_of))]
-    pub fn bytes_left(&self) -> usize
-        ensures { result ≡ length (left_of self.now) }
-    {
-        self.bytes.len().saturating_sub(self.taken)
+        Save {
+            left: ArrayVec::new(),
+        }
     }
 
     // Begins a save of the library, unless one is unfinished or there is no library.
@@ -95,7 +72,7 @@ impl Save {
         ensures refusal { number_in result ≡ begin_refusal (length (left_of self.old)) library.now }
         ensures save { self.new ≡ begin_of self.old library.now }
     {
-        check_unfinished(self.bytes_left())?;
+        check_unfinished(self.left.len())?;
         *self = begun_with(library)?;
         Ok(())
     }
@@ -108,9 +85,9 @@ impl Save {
         ensures save { self.new ≡ take_of self.old output.old }
         ensures output_after { output.new ≡ taken_of self.old output.old }
     {
-        check_finished(self.bytes_left())?;
-        let n = lists::put(self.left(), output, 0);
-        self.taken += n;
+        check_finished(self.left.len())?;
+        let n = lists::put(self.left.as_slice(), output, 0);
+        self.left.drain(..n);
         Ok(n)
     }
 }
