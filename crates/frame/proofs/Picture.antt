@@ -36,7 +36,7 @@ cond_out g false x y = refl
 -- the picture with another head is that of the histories with another
 head_set : (H : Histories) (h : ℕ) (x : HeadHistory) → with_head (frame_for H) h (head_for x) ≡ frame_for (with_history H h x)
 head_set H h x =
-    ap (λ l. record { heads = l; library = library_of H.sheet })
+    ap (λ l. record (frame_for H) { heads = l })
     (set_table 12 _ h (head_for x) ∙ table_ext 12 _ _ (λ j l. cond_out head_for (eqb j h) x (H.heads j)))
 
 abbrev pub Follows : Histories → Call → Type 0

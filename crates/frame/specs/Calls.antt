@@ -20,10 +20,10 @@ abbrev pub head_at : Frame → ℕ → Head
 head_at f h = get_or f.heads h empty_head
 
 abbrev pub with_head : Frame → ℕ → Head → Frame
-with_head f h x = record { heads = set f.heads h x; library = f.library }
+with_head f h x = record f { heads = set f.heads h x }
 
 abbrev pub with_library : Frame → Library → Frame
-with_library f l = record { heads = f.heads; library = l }
+with_library f l = record f { library = l }
 
 abbrev pub fresh_frame : Frame
 fresh_frame = record { heads = replicate 12 empty_head; library = library.none }

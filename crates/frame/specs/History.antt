@@ -38,11 +38,11 @@ abbrev pub changed_at : ℕ → HeadHistory → (ℕ → HeadHistory) → ℕ �
 changed_at h x g j = cond (eqb j h) x (g j)
 
 abbrev pub with_history : Histories → ℕ → HeadHistory → Histories
-with_history H h x = record { sheet = H.sheet; heads = changed_at h x H.heads }
+with_history H h x = record H { heads = changed_at h x H.heads }
 
 -- a load adds the entry's kind byte and words as they stood in the last accepted open
 abbrev pub grown : Histories → Call → Histories
-grown H (opening s) = record { sheet = s; heads = H.heads }
+grown H (opening s) = record H { sheet = s }
 grown H (writing out) = H
 grown H (loading h e) = with_history H h (adding (H.heads h) (load_event (entry_in H.sheet e)))
 grown H (at h a) = with_history H h (grown_by (H.heads h) a)
