@@ -765,7 +765,7 @@ const SHORT_SHEETS: [&str; 2] = [
     "02024201cdcc4c3e00000000000000000000003f0000000000000000",
 ];
 
-/// The alphabet of the lists of saves. Two parts of 14 are one of the sheets, and leave a place of the other's second part.
+/// The alphabet of the lists of saves. Two takes of 14 places end exactly with the longer sheet; of the shorter one the second gets a byte.
 fn save_letter(k: u64) -> String {
     match k {
         0 | 1 => format!("open {}", SHORT_SHEETS[k as usize]),
