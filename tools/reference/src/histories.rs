@@ -55,6 +55,8 @@ pub struct Writer {
     numbers: Numbers,
     text: String,
     library: Vec<u8>,
+    // How many bytes are left of a save.
+    left: usize,
     heads: Vec<Guess>,
     favourites: Vec<u64>,
 }
@@ -65,6 +67,7 @@ impl Writer {
             numbers: Numbers(seed),
             text: String::new(),
             library: Vec::new(),
+            left: 0,
             heads: Vec::new(),
             favourites: Vec::new(),
         }
@@ -377,6 +380,55 @@ impl Writer {
         }
     }
 
+    fn begin(&mut self) {
+        self.line("begin");
+        if self.left == 0 {
+            self.left = self.library.len();
+        }
+    }
+
+    // An output of no places, of as many as bytes are left, of one less, of some more, of about what the longest sheet has, or by chance.
+    fn take(&mut self) {
+        let left = self.left as u64;
+        let n = match self.numbers.weighted(&[10, 10, 10, 10, 2, 58]) {
+            0 => 0,
+            1 => left,
+            2 => left.saturating_sub(1),
+            3 => left + 1 + self.numbers.below(3),
+            4 => self.numbers.pick(&[833, 834, 835, 4096]),
+            _ => 1 + self.numbers.below(left / 2 + 20),
+        };
+        let out: Vec<u8> = (0..n).map(|_| self.numbers.next() as u8).collect();
+        let line = format!("take {}", hex(&out));
+        self.line(&line);
+        self.left = self.left.saturating_sub(out.len());
+    }
+
+    // A save, mostly to its end, with opens, begins and any other calls between its parts.
+    fn save(&mut self) -> u64 {
+        self.begin();
+        let mut lines = 1;
+        while self.left > 0 && !self.numbers.percent(5) {
+            lines += match self.numbers.weighted(&[6, 2, 1, 3]) {
+                0 => {
+                    self.take();
+                    1
+                }
+                1 => {
+                    let sheet = self.any_sheet();
+                    self.open(sheet);
+                    1
+                }
+                2 => {
+                    self.begin();
+                    1
+                }
+                _ => self.step_on(),
+            };
+        }
+        lines
+    }
+
     fn load(&mut self, head: u64) {
         let library = self.library.clone();
         let entry = self.entry_number(&library);
@@ -468,7 +520,7 @@ impl Writer {
     }
 
     fn bad_line(&mut self) {
-        const BAD: [&str; 53] = [
+        const BAD: [&str; 59] = [
             "x",
             " ",
             "open",
@@ -522,6 +574,12 @@ impl Writer {
             "count",
             "count 0 0",
             "count -",
+            "begin 0",
+            "begin -",
+            "begin ",
+            "take",
+            "take 0",
+            "take - -",
         ];
         match self.numbers.weighted(&[90, 8, 1, 1]) {
             0 => {
@@ -573,7 +631,7 @@ impl Writer {
     fn step_on(&mut self) -> u64 {
         let head = self.head();
         match self.numbers.weighted(&[
-            330, 130, 100, 60, 60, 35, 50, 40, 20, 20, 20, 20, 20, 20, 40, 8,
+            330, 130, 100, 60, 60, 35, 50, 40, 20, 20, 20, 20, 20, 20, 40, 5, 8, 6, 8,
         ]) {
             0 => self.run(head, 1),
             1 => self.run(head, 2),
@@ -610,6 +668,9 @@ impl Writer {
                 let line = format!("count {}", self.number(head));
                 self.line(&line);
             }
+            15 => self.begin(),
+            16 => self.take(),
+            17 => return self.save(),
             _ => match self.numbers.weighted(&[80, 10, 9, 1]) {
                 0 => self.bad_line(),
                 1 => self.line(""),
@@ -624,9 +685,15 @@ impl Writer {
     pub fn history(&mut self, lines: u64) -> Vec<u8> {
         self.text.clear();
         self.library.clear();
+        self.left = 0;
         self.heads = vec![Guess::default(); 12];
         let some = 1 + self.numbers.below(5);
         self.favourites = (0..some).map(|_| self.numbers.below(12)).collect();
+        // Before there is a library to save.
+        if self.numbers.percent(30) {
+            self.begin();
+            self.take();
+        }
         if self.numbers.percent(95) {
             let sheet = self.sheet();
             self.open(sheet);
@@ -635,6 +702,9 @@ impl Writer {
         while done < lines {
             done += self.step_on();
         }
+        // What is left of a save, and the library. The longest sheet has 834 bytes.
+        self.line(&lend("take", 834));
+        self.line(&lend("write", 834));
         if self.numbers.percent(50) {
             self.text.pop();
         }
@@ -680,6 +750,46 @@ pub fn short(length: u32) -> impl Iterator<Item = Vec<u8>> {
             }
             text.push_str(&format!("head {h}\ncount {h}\n"));
         }
+        text.into_bytes()
+    })
+}
+
+/// A line that lends an output of so many places.
+fn lend(call: &str, places: usize) -> String {
+    format!("{call} {}", hex(&vec![0xEE; places]))
+}
+
+/// Sheets of 15 bytes in edition 1, and of 28 in edition 2.
+const SHORT_SHEETS: [&str; 2] = [
+    "0100010000003f0000000000000000",
+    "02024201cdcc4c3e00000000000000000000003f0000000000000000",
+];
+
+/// The alphabet of the lists of saves. Two takes of 14 places end exactly with the longer sheet; of the shorter one the second gets a byte.
+fn save_letter(k: u64) -> String {
+    match k {
+        0 | 1 => format!("open {}", SHORT_SHEETS[k as usize]),
+        2 => "begin".to_string(),
+        3 => lend("take", 0),
+        4 => lend("take", 14),
+        5 => lend("take", 30),
+        _ => unreachable!(),
+    }
+}
+
+pub const SAVE_LETTERS: u64 = 6;
+
+/// Every list of exactly so many of these, each on a fresh frame; at the end what is left is taken, and the library written.
+pub fn saves(length: u32) -> impl Iterator<Item = Vec<u8>> {
+    (0..SAVE_LETTERS.pow(length)).map(move |list| {
+        let mut rest = list;
+        let mut text = String::new();
+        for _ in 0..length {
+            text.push_str(&save_letter(rest % SAVE_LETTERS));
+            text.push('\n');
+            rest /= SAVE_LETTERS;
+        }
+        text.push_str(&format!("{}\n{}\n", lend("take", 30), lend("write", 30)));
         text.into_bytes()
     })
 }
@@ -760,6 +870,8 @@ pub fn sheet_changes() -> impl Iterator<Item = Vec<u8>> {
 pub fn sample(seed: u64) -> Vec<u8> {
     let mut text = String::from(
         "# Made by `tools/histories --sample`, with the answers of tools/reference.\n\n\
+         # No library yet.\n\
+         begin\ntake ee\n\n\
          # S11 of document 01, with the sheet of S10.\n\
          open 0100010000003f0000000000000000\n\
          load 0 0\n\
@@ -892,6 +1004,35 @@ pub fn sample(seed: u64) -> Vec<u8> {
         "count 10",
         "drop 10 0",
         "count 10",
+    ] {
+        text.push_str(line);
+        text.push('\n');
+    }
+    text.push_str(
+        "\n# A save goes on with its sheet while another is opened; the next one has that.\n",
+    );
+    let [next, saved] = SHORT_SHEETS.map(|sheet| format!("open {sheet}"));
+    for line in [
+        &lend("take", 0),
+        &lend("take", 2),
+        &saved,
+        "begin",
+        "begin",
+        &lend("take", 14),
+        &next,
+        &lend("take", 0),
+        "load 9 0",
+        "open 00",
+        &lend("write", 16),
+        &lend("take", 13),
+        "begin",
+        "head 9",
+        &lend("take", 30),
+        &lend("take", 30),
+        "begin",
+        &lend("take", 15),
+        &lend("take", 0),
+        &lend("write", 15),
     ] {
         text.push_str(line);
         text.push('\n');

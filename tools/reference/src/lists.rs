@@ -152,10 +152,12 @@ struct Head {
     row: Vec<List>,
 }
 
-/// The sheet of the last accepted open, none before any, and twelve heads.
+/// The sheet of the last accepted open, none before any; what is left to take of a save (02 h), nothing where none is unfinished; and twelve
+/// heads.
 #[derive(Default)]
 pub struct Frame {
     library: Vec<u8>,
+    left: Vec<u8>,
     heads: [Head; 12],
     replay: bool,
 }
@@ -334,6 +336,39 @@ impl Frame {
         }
         out[..n].copy_from_slice(&self.library);
         Ok(n)
+    }
+
+    /// Begins a save. It has bytes of its own, so no later open reaches them.
+    pub fn begin(&mut self) -> u8 {
+        if !self.left.is_empty() {
+            return 16;
+        }
+        if self.library.is_empty() {
+            return 2;
+        }
+        self.left = self.library.clone();
+        0
+    }
+
+    /// How many bytes were written, or the refusal. Places behind them are as lent.
+    pub fn take(&mut self, out: &mut [u8]) -> Result<usize, u8> {
+        if self.left.is_empty() {
+            return Err(17);
+        }
+        let n = out.len().min(self.left.len());
+        out[..n].copy_from_slice(&self.left[..n]);
+        self.left.drain(..n);
+        Ok(n)
+    }
+
+    /// What is left to take of a save.
+    pub fn left(&self) -> &[u8] {
+        &self.left
+    }
+
+    /// Whether what is left is no end of the library, so that it can only be another sheet's.
+    pub fn saves_another(&self) -> bool {
+        !self.left.is_empty() && !self.library.ends_with(&self.left)
     }
 
     /// The filter of a head and those of its marks, `None` for an empty one; nothing for a head above 11.

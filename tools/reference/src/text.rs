@@ -318,6 +318,37 @@ fn call(frame: &mut Frame, line: &[u8], counts: &mut Counts, to: &mut String) ->
             }
             put_written("write", answer, &out, counts, to);
         }
+        [b"begin"] => {
+            let number = frame.begin();
+            if number == 0 {
+                counts.add("begin accepted", 1);
+                let edition = sheets::edition(frame.left());
+                counts.add(&format!("begin of edition {edition}"), 1);
+            } else {
+                counts.add(&format!("begin refused {number}"), 1);
+            }
+            numbered("begin", number, counts, to);
+        }
+        [b"take", out] => {
+            let mut out = bytes(out)?;
+            let another = frame.saves_another();
+            let answer = frame.take(&mut out);
+            if let Ok(length) = answer {
+                counts.add("take accepted", 1);
+                counts.add("bytes taken", length as u64);
+                for (what, is) in [
+                    ("take of no places", out.is_empty()),
+                    ("take of the last byte", frame.left().is_empty()),
+                    ("take with places left over", length < out.len()),
+                    ("take of a sheet that is not open", another && length > 0),
+                ] {
+                    if is {
+                        counts.add(what, 1);
+                    }
+                }
+            }
+            put_written("take", answer, &out, counts, to);
+        }
         [b"convert", edition, sheet, out] => {
             let wanted = match edition {
                 b"1" => 1,

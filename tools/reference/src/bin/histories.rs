@@ -1,5 +1,6 @@
 //! Gives histories to frame_calls and to the reference, and compares what they write byte for byte.
-//! `histories random --seed N --calls N --lines N`, `histories short --length N`, `histories sheets`, `histories sample`.
+//! `histories random --seed N --calls N --lines N`, `histories short --length N`, `histories saves --length N`, `histories sheets`,
+//! `histories sample`.
 //! A history gets a program of its own; the reference gets many, with `# fresh frame` between.
 
 use reference::counts::Counts;
@@ -14,7 +15,7 @@ const REFERENCE: &str = "target/cargo/release/reference";
 const FOLDER: &str = "target/histories";
 
 /// The numbers of the refusals that there are, but for 18: a text that brings a head there has 69 GB. The program `count_limit` runs to it.
-const REFUSALS: [u8; 13] = [1, 2, 3, 4, 5, 6, 7, 8, 9, 10, 11, 12, 15];
+const REFUSALS: [u8; 15] = [1, 2, 3, 4, 5, 6, 7, 8, 9, 10, 11, 12, 15, 16, 17];
 
 /// How often each thing has to have been tried in a random run.
 const LEAST: u64 = 50;
@@ -203,6 +204,10 @@ fn tried_enough(counts: &Counts) -> bool {
         "convert refused 11",
         "convert refused 12",
         "convert refused 15",
+        "begin refused 2",
+        "begin refused 16",
+        "take of no places",
+        "take with places left over",
     ] {
         wanted.push(call.to_string());
     }
@@ -218,6 +223,12 @@ fn tried_enough(counts: &Counts) -> bool {
         "write of edition 2",
         "count accepted",
         "count above 0",
+        "begin accepted",
+        "begin of edition 1",
+        "begin of edition 2",
+        "take accepted",
+        "take of the last byte",
+        "take of a sheet that is not open",
     ];
     let mut enough = true;
     for (what, least) in wanted
@@ -276,6 +287,20 @@ fn summary(counts: &Counts) {
         counts.of("count above 0"),
     );
     println!(
+        "saves: begun in edition 1 {}, in edition 2 {}; takes {}, of a sheet that is not open {}, into no places {}, with places left over {}, of the last byte {}; bytes taken {}; begins refused with 2 {}, with 16 {}, takes with 17 {}",
+        counts.of("begin of edition 1"),
+        counts.of("begin of edition 2"),
+        counts.of("take accepted"),
+        counts.of("take of a sheet that is not open"),
+        counts.of("take of no places"),
+        counts.of("take with places left over"),
+        counts.of("take of the last byte"),
+        counts.of("bytes taken"),
+        counts.of("begin refused 2"),
+        counts.of("begin refused 16"),
+        counts.of("refusal 17"),
+    );
+    println!(
         "conversions: edition 1 to 2 {}, 2 to 1 {}, copies {}; refused with 12 {}, with 15 {}, as no sheet {}",
         counts.of("convert of edition 1 to 2"),
         counts.of("convert of edition 2 to 1"),
@@ -286,6 +311,14 @@ fn summary(counts: &Counts) {
             .map(|n| counts.of(&format!("convert refused {n}")))
             .iter()
             .sum::<u64>(),
+    );
+}
+
+fn say_every(letters: u64, length: u32, calls: &str, start: Instant) {
+    println!(
+        "histories: all {} lists of {length} {calls}, {:.1} s: no difference",
+        letters.pow(length),
+        start.elapsed().as_secs_f64()
     );
 }
 
@@ -332,10 +365,16 @@ fn main() {
         Some("short") => {
             let length = value(&arguments, "--length", 5) as u32;
             comparison.all(histories::short(length), 500);
-            println!(
-                "histories: all {} lists of {length} calls, {:.1} s: no difference",
-                histories::LETTERS.pow(length),
-                start.elapsed().as_secs_f64()
+            say_every(histories::LETTERS, length, "calls", start);
+        }
+        Some("saves") => {
+            let length = value(&arguments, "--length", 5) as u32;
+            comparison.all(histories::saves(length), 500);
+            say_every(
+                histories::SAVE_LETTERS,
+                length,
+                "opens, begins and takes",
+                start,
             );
         }
         Some("sheets") => {
@@ -354,7 +393,7 @@ fn main() {
                 .expect("standard output");
         }
         _ => {
-            eprintln!("histories: random, short, sheets or sample");
+            eprintln!("histories: random, short, saves, sheets or sample");
             exit(2);
         }
     }
