@@ -2,12 +2,13 @@
 use Prim.Native.Nat.{ℕ, ◌<◌}
 use mathlib.Core.Path.{◌≡◌, refl, ap, ◌∙◌}
 use mathlib.Core.Bool.{Bool, true, false, cond}
-use mathlib.Core.List.{List}
+use mathlib.Core.List.{List, [], ◌∷◌}
 use native.Mathlib.Omega.{arith}
-use borrow.Author.Tests.{ltb-false, leb-false, eqb-true}
+use borrow.Author.Tests.{ltb-false, leb-false, eqb-true, eqb-false}
 use lib.Dec.{eqb, leb, ltb}
-use lib.ListN.{get_or}
+use lib.ListN.{get_or, length}
 use lib.Seq.{set-get_or}
+use Rattle.filter_core.specs.Rows.{First, none, here, later}
 use Rattle.sheets.specs.Sheet.{entries_of, entry_in, check_of}
 use Rattle.sheets.specs.declared.entry.Entry.{Entry}
 use Rattle.library.specs.Library.{library_of, write_number}
@@ -20,14 +21,19 @@ use Rattle.heads.specs.History.{load_event, HeadHistory, act_number, adding, gro
 use Rattle.heads.specs.Follows.{head_for}
 use Rattle.lists.proofs.Tables.{get_or_table, table_ext, set_table}
 use Rattle.heads.proofs.Follows.{head_follows}
-use Rattle.frame.specs.Call.{Call, opening, writing, loading, at, plain, acted}
-use Rattle.frame.specs.Calls.{with_head, settled, perform}
+use Rattle.saves.specs.Save.{with_left, begin_refusal, take_refusal}
+use Rattle.saves.specs.Rows.{BeginCase, no_entries}
+use Rattle.saves.proofs.Rows.{begin_row}
+use Rattle.saves.proofs.Parts.{begin_accepted, begin_refused, left_begun, take_refused}
+use Rattle.frame.specs.Call.{Call, opening, writing, loading, at, beginning, taking, plain, acted}
+use Rattle.frame.specs.Calls.{with_head, with_save, settled, perform}
 use Rattle.frame.specs.History.{Histories, call_number, with_history, advance, reply_to}
 use Rattle.frame.proofs.Sound.{Sound}
+use Rattle.saves.specs.declared.Save.{Save}
 use Rattle.frame.specs.declared.Frame.{Frame}
 
 abbrev pub frame_for : Histories → Frame
-frame_for H = record { heads = table 12 (λ h. head_for (H.heads h)); library = library_of H.sheet }
+frame_for H = record { heads = table 12 (λ h. head_for (H.heads h)); library = library_of H.sheet; save = with_left H.left }
 
 cond_out : {A B : Type 0} (g : A → B) (b : Bool) (x y : A) → cond b (g x) (g y) ≡ g (cond b x y)
 cond_out g true x y = refl
@@ -108,8 +114,49 @@ follows_at H h a S = go (ltb 11 h) refl
         let below : h < 12 = omega (arith, ltb-false 11 h q) in
         rw (q, the_head H h below, head_follows.act (H.heads h) a (S.each h)) (settles H h below a)
 
+-- an accepted begin has entries to save
+has_entries : {k n r : ℕ} → r ≡ 0 → First (BeginCase k n) (16 ∷ 2 ∷ []) r → 0 < n
+has_entries e (here p) = absurd (omega arith)
+has_entries e (later p (here q)) = absurd (omega arith)
+has_entries {n} e (later p (later q none)) = omega (arith, ne_zero)
+  where
+    ne_zero : n ≡ 0 → ⊥
+    ne_zero z = q (no_entries z)
+
+follows_begin : (H : Histories) → Sound H → Follows H beginning
+unfolding perform reply_to advance call_number
+follows_begin H S = go (eqb number 0) refl
+  where
+    v : Save
+    v = with_left H.left
+
+    number : ℕ
+    number = begin_refusal (length H.left) (library_of H.sheet)
+
+    go : (b : Bool) → eqb number 0 ≡ b → Follows H beginning
+    go true q =
+        let z = eqb-true number 0 q in
+        let s = S.sheet.whole (has_entries z (begin_row (length H.left) (library_of H.sheet) (entries_of H.sheet) S.sheet.held)) in
+        rw (begin_accepted v (library_of H.sheet) z, z) (ap (λ (l : List ℕ). record { reply = plain 0; frame = with_save (frame_for H) (with_left l) }) (left_begun H.sheet s))
+    go false q = rw (begin_refused v (library_of H.sheet) (eqb-false number 0 q), q) refl
+
+follows_take : (H : Histories) (out : List ℕ) → Follows H (taking out)
+unfolding perform reply_to advance call_number
+follows_take H out = go (eqb (take_refusal v) 0) refl
+  where
+    v : Save
+    v = with_left H.left
+
+    go : (b : Bool) → eqb (take_refusal v) 0 ≡ b → Follows H (taking out)
+    go true q = rw (eqb-true (take_refusal v) 0 q) refl
+    go false q =
+        let t = take_refused v out (eqb-false (take_refusal v) 0 q) in
+        rw (q, t.save, t.output, t.length) refl
+
 pub follows : (H : Histories) (c : Call) → Sound H → Follows H c
 follows H (opening s) S = follows_open H s
 follows H (writing out) S = follows_write H out
 follows H (loading h e) S = follows_load H h e S
 follows H (at h a) S = follows_at H h a S
+follows H beginning S = follows_begin H S
+follows H (taking out) S = follows_take H out

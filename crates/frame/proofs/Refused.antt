@@ -11,7 +11,8 @@ use Rattle.library.specs.Library.{count as entry_count, write_number}
 use Rattle.heads.specs.Act.{Act, run, run_two, rest, mark, back, drop, count, head_number, refused_act}
 use Rattle.heads.specs.Head.{empty_head, turn}
 use Rattle.heads.proofs.Refused as head
-use Rattle.frame.specs.Call.{Call, opening, writing, loading, at, number_in, refused}
+use Rattle.saves.proofs.Parts.{begin_refused, take_refused}
+use Rattle.frame.specs.Call.{Call, opening, writing, loading, at, beginning, taking, number_in, refused}
 use Rattle.frame.specs.Calls.{head_at, Done, refuse, settled, perform}
 use Rattle.frame.specs.Refused.{RefusedLeaves}
 use Rattle.frame.specs.declared.Frame.{Frame}
@@ -38,6 +39,14 @@ leaves_write f out = go (eqb (write_number f.library out) 0) refl
     go true q z = absurd (z (eqb-true _ _ q))
     go false q z = rw q refl
 
+leaves_begin : (f : Frame) → Leaves f beginning (perform f beginning)
+unfolding perform
+leaves_begin f z = rw (begin_refused f.save f.library z) refl
+
+leaves_take : (f : Frame) (out : List ℕ) → Leaves f (taking out) (perform f (taking out))
+unfolding perform
+leaves_take f out z = let t = take_refused f.save out z in rw (t.save, t.output, t.length) refl
+
 refused_number : (a : Act) → head_number (refused_act 1 a) ≡ 1
 refused_number (run form us ys) = refl
 refused_number (run_two form us ys zs) = refl
@@ -59,3 +68,5 @@ refused_leaves f (loading h e) =
     either f (loading h e) (ltb 11 h) _ _ (refusing f (loading h e) 1 refl)
     (either f (loading h e) (leb (entry_count f.library) e) _ _ (refusing f (loading h e) 5 refl) (accepting f (loading h e) _ refl))
 refused_leaves f (at h a) = either f (at h a) (ltb 11 h) _ _ (refusing f (at h a) 1 (refused_number a)) (put_back f h a)
+refused_leaves f beginning = leaves_begin f
+refused_leaves f (taking out) = leaves_take f out

@@ -4,6 +4,7 @@ use mathlib.Core.List.{List, ◌∷◌}
 use native.Mathlib.Omega.{arith}
 use borrow.Author.Tests.{ltb-true, ltb-false, leb-true, leb-false}
 use lib.Dec.{ltb, leb}
+use lib.ListN.{length}
 use Rattle.filter_core.specs.Rows.{First, none, here, later}
 use Rattle.filter_core.proofs.Rows.{exactly, by_test}
 use Rattle.sheets.specs.Sheet.{entries_of}
@@ -14,7 +15,8 @@ use Rattle.heads.specs.Act.{Act, run, run_two, rest, mark, back, drop, count}
 use Rattle.heads.specs.History.{HeadHistory}
 use Rattle.heads.specs.Rows.{ActCase}
 use Rattle.heads.proofs.Rows.{head_by_rows}
-use Rattle.frame.specs.Call.{Call, opening, writing, loading, at}
+use Rattle.saves.proofs.Rows.{begin_row, take_row}
+use Rattle.frame.specs.Call.{Call, opening, writing, loading, at, beginning, taking}
 use Rattle.frame.specs.History.{Histories, no_histories, head_first, call_number, advance_all}
 use Rattle.frame.specs.Rows.{AtCase, no_head, of_head, LoadCase, no_entry, Row, NumbersByRows}
 use Rattle.frame.proofs.Sound.{Sound, sound_all, sound_none}
@@ -57,6 +59,8 @@ row H (loading h e) S =
     (by_head (elim [ ])
     (by_test (leb (entries_of H.sheet) e) (λ q. no_entry (leb-true _ _ q)) (λ q. entry_there (leb-false _ _ q)) (λ q. none)))
 row H (at h a) S = exactly (by_head (not_head a) (head_by_rows (H.heads h) a (S.each h)).is)
+row H beginning S = exactly (begin_row (length H.left) (library_of H.sheet) (entries_of H.sheet) S.sheet.held)
+row H (taking out) S = exactly (take_row (length H.left))
 
 pub numbers_by_rows : NumbersByRows
 unfolding NumbersByRows

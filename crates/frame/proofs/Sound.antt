@@ -7,6 +7,7 @@ use native.Mathlib.Omega.{arith}
 use borrow.Author.Tests.{eqb-true}
 use lib.Dec.{eqb, ltb}
 use Rattle.sheets.specs.Sheet.{entries_of, entry_in, check_of}
+use Rattle.sheets.specs.Rows.{Sheet}
 use Rattle.sheets.proofs.Rows.{check_sheet}
 use Rattle.library.specs.Library.{library_of, entry_at}
 use Rattle.library.specs.Rows.{Held, nothing, of_sheet}
@@ -14,20 +15,21 @@ use Rattle.library.proofs.RoundTrip.{same_entries, no_sheet}
 use Rattle.heads.specs.History.{HeadHistory, act_number}
 use Rattle.heads.specs.Follows.{SoundHead}
 use Rattle.heads.proofs.Sound as head
-use Rattle.frame.specs.Call.{Call, opening, writing, loading, at}
+use Rattle.frame.specs.Call.{Call, opening, writing, loading, at, beginning, taking}
 use Rattle.frame.specs.History.{Histories, no_histories, head_first, call_number, with_history, grown, advance, advance_all}
 
--- the library is that of a sheet, or none, and its entries are the sheet's
+-- the library is that of a sheet, or none, and its entries are the sheet's; where there are some, it is a sheet
 pub record SoundSheet (s : List ℕ) : Type 0 where
   pub held : Held (library_of s) (entries_of s)
   pub entry : (e : ℕ) → e < entries_of s → entry_at (library_of s) e ≡ entry_in s e
+  pub whole : 0 < entries_of s → Sheet s
 
 pub record Sound (H : Histories) : Type 0 where
   pub sheet : SoundSheet H.sheet
   pub each : (h : ℕ) → SoundHead (H.heads h)
 
 sound_open : (s : List ℕ) → check_of s ≡ 0 → SoundSheet s
-sound_open s e = record { held = of_sheet (check_sheet s e); entry = (same_entries s (check_sheet s e)).entry }
+sound_open s e = record { held = of_sheet (check_sheet s e); entry = (same_entries s (check_sheet s e)).entry; whole = λ l. check_sheet s e }
 
 either : (b : Bool) (x y : HeadHistory) → SoundHead x → SoundHead y → SoundHead (cond b x y)
 either true x y S R = S
@@ -51,6 +53,8 @@ sound_accepted H (writing out) S q = S
 sound_accepted H (loading h e) S q = sound_at H h _ S (head.sound_loaded (H.heads h) (entry_in H.sheet e) (S.each h))
 sound_accepted H (at h a) S q =
     sound_at H h _ S (head.sound_grown (H.heads h) a (S.each h) (past_head h (act_number (H.heads h) a) q))
+sound_accepted H beginning S q = record { sheet = S.sheet; each = S.each }
+sound_accepted H (taking out) S q = record { sheet = S.sheet; each = S.each }
 
 pub sound_advance : (H : Histories) (c : Call) → Sound H → Sound (advance H c)
 unfolding advance
@@ -67,4 +71,4 @@ sound_all H (c ∷ cs) S = sound_all (advance H c) cs (sound_advance H c S)
 
 pub sound_none : Sound no_histories
 sound_none =
-    record { sheet = record { held = rw no_sheet nothing; entry = λ e l. absurd (omega arith) }; each = λ h. head.sound_none }
+    record { sheet = record { held = rw no_sheet nothing; entry = λ e l. absurd (omega arith); whole = λ l. absurd (omega arith) }; each = λ h. head.sound_none }

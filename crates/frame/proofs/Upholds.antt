@@ -54,6 +54,7 @@ upheld H cs S =
       standing = λ h l. rw (r.frame, the_head (advance_all H cs) h l) (length-map ((advance_all H cs).heads h).checkpoints snapshot_of);
       marks = λ h l. rw (r.frame, the_head (advance_all H cs) h l);
       library = rw r.frame;
+      left = rw r.frame;
     }
 
 fresh_picture : fresh_frame ≡ frame_for no_histories

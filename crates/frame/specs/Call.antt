@@ -8,6 +8,9 @@ pub data Call : Type 0 where
   -- a head and an entry
   loading : ℕ → ℕ → Call
   at : ℕ → Act → Call
+  -- of a save (02 h); a take with its output
+  beginning : Call
+  taking : List ℕ → Call
 
 -- The number, which is 0 where the call is accepted; the count of the bytes, if it writes some, with the lent output as it stands then; or
 -- what a head replies.
@@ -27,3 +30,5 @@ refused n (opening s) = plain n
 refused n (writing out) = wrote n 0 out
 refused n (loading h e) = plain n
 refused n (at h a) = acted (refused_act n a)
+refused n beginning = plain n
+refused n (taking out) = wrote n 0 out

@@ -1,5 +1,5 @@
 -- What each call does to a frame, as its contract has it.
-use Rattle.std.specs.Prelude.{ℕ, cond, List, leb, ltb, eqb, get_or, set, replicate, Float, Result}
+use Rattle.std.specs.Prelude.{ℕ, cond, List, leb, ltb, eqb, length, get_or, set, replicate, Float, Result}
 use Rattle.std.specs.Result.{result_unwrap_or}
 use Rattle.filter_core.specs.Refusal.{number_in, unless_refused}
 use Rattle.filter_core.specs.declared.refusal.Refusal.{Refusal}
@@ -10,7 +10,9 @@ use Rattle.heads.specs.Act.{answered, marked, ran, ran_two, counted}
 use Rattle.heads.specs.Snapshot.{loaded_with}
 use Rattle.heads.specs.Head.{empty_head, holding, Turned, turn}
 use Rattle.heads.specs.declared.Head.{Head}
-use Rattle.frame.specs.Call.{Call, opening, writing, loading, at, Reply, plain, wrote, acted, refused}
+use Rattle.saves.specs.Save.{no_save, left_of, begin_refusal, begin_of, take_refusal, take_length, take_of, taken_of}
+use Rattle.saves.specs.declared.Save.{Save}
+use Rattle.frame.specs.Call.{Call, opening, writing, loading, at, beginning, taking, Reply, plain, wrote, acted, refused}
 use Rattle.frame.specs.declared.Frame.{Frame}
 
 -- ---- a frame's parts
@@ -25,8 +27,11 @@ with_head f h x = record f { heads = set f.heads h x }
 abbrev pub with_library : Frame → Library → Frame
 with_library f l = record f { library = l }
 
+abbrev pub with_save : Frame → Save → Frame
+with_save f v = record f { save = v }
+
 abbrev pub fresh_frame : Frame
-fresh_frame = record { heads = replicate 12 empty_head; library = library.none }
+fresh_frame = record { heads = replicate 12 empty_head; library = library.none; save = no_save }
 
 -- a head above 11 gets the number 1
 abbrev pub head_number : ℕ → ℕ
@@ -60,11 +65,17 @@ abbrev pub writes : Library → List ℕ → Reply
 writes l out =
     wrote (library.write_number l out) (unless_refused (library.write_number l out) 0 (library.sheet_length l)) (library.written_of l out)
 
+-- a take that is refused has the length 0, and leaves the output
+abbrev pub takes : Save → List ℕ → Reply
+takes v out = wrote (take_refusal v) (take_length v out) (taken_of v out)
+
 unfoldable pub perform : Frame → Call → Done
 perform f (opening s) = cond (eqb (check_of s) 0) (record { reply = plain 0; frame = with_library f (library.library_of s) }) (refuse f (opening s) (check_of s))
 perform f (writing out) = record { reply = writes f.library out; frame = f }
 perform f (loading h e) = at_head f (loading h e) h (load_done f h e)
 perform f (at h a) = at_head f (at h a) h (settled f h (turn (head_at f h) a))
+perform f beginning = record { reply = plain (begin_refusal (length (left_of f.save)) f.library); frame = with_save f (begin_of f.save f.library) }
+perform f (taking out) = record { reply = takes f.save out; frame = with_save f (take_of f.save out) }
 
 -- ---- the answers of the code, the frame that it leaves, and the lent outputs as they are left. A refused call answers 0 beside its number
 

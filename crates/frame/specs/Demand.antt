@@ -1,6 +1,7 @@
 -- Demand 3: what the frame does under any list of calls is what the histories of the calls say.
 use Rattle.std.specs.Prelude.{ℕ, ◌<◌, ◌≡◌, List, [], ◌∷◌, length, map, None}
 use Rattle.library.specs.Library.{library_of}
+use Rattle.saves.specs.Save.{left_of}
 use Rattle.frame.specs.Call.{Call, Reply}
 use Rattle.frame.specs.Calls.{fresh_frame, head_at, perform}
 use Rattle.heads.specs.History.{snapshot_of}
@@ -33,6 +34,8 @@ pub record Upheld (f : Frame) (H : Histories) (cs : List Call) : Type 0 where
   pub marks : (h : ℕ) → h < 12 → (head_at (frame_after f cs) h).marks.items ≡ map snapshot_of ((advance_all H cs).heads h).checkpoints
   -- the library is that of the last accepted open, or none
   pub library : (frame_after f cs).library ≡ library_of (advance_all H cs).sheet
+  -- the save has left what the calls leave to take (02 h)
+  pub left : left_of (frame_after f cs).save ≡ (advance_all H cs).left
 
 -- every list of calls, from a fresh frame: Demand3
 unfoldable pub Demand3 : Type 0

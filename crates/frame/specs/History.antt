@@ -1,19 +1,23 @@
 -- What document 01 says of a frame under "Kept list", read from the calls alone: the heads' histories, the calls' numbers and replies.
 -- Nothing here is read from what a frame holds.
-use Rattle.std.specs.Prelude.{ℕ, cond, List, [], ◌∷◌, leb, ltb, eqb}
+use Rattle.std.specs.Prelude.{ℕ, cond, List, [], ◌∷◌, leb, ltb, eqb, length, drop}
+use Rattle.lists.specs.Over.{room, over}
 use Rattle.sheets.specs.Sheet.{entries_of, entry_in, check_of}
 use Rattle.library.specs.Library.{library_of, write_number, sheet_length, written_of}
 use Rattle.heads.specs.History.{load_event, HeadHistory, no_history, act_number, adding, grown_by, accepted_act}
-use Rattle.frame.specs.Call.{Call, opening, writing, loading, at, Reply, plain, wrote, acted, refused}
+use Rattle.saves.specs.Save.{begin_refusal, finished_refusal}
+use Rattle.frame.specs.Call.{Call, opening, writing, loading, at, beginning, taking, Reply, plain, wrote, acted, refused}
 
--- the sheet of the last accepted open, the empty list before any, and each head's history
+-- the sheet of the last accepted open, the empty list before any; each head's history; and what is left to take of the save that was begun
+-- last (02 h), the empty list where none is unfinished
 pub record Histories : Type 0 where
   pub sheet : List ℕ
   pub heads : ℕ → HeadHistory
+  pub left : List ℕ
 
 -- a fresh frame's
 abbrev pub no_histories : Histories
-no_histories = record { sheet = []; heads = λ h. no_history }
+no_histories = record { sheet = []; heads = λ h. no_history; left = [] }
 
 -- ---- the number of each call, in the table's order
 
@@ -30,6 +34,8 @@ call_number H (opening s) = check_of s
 call_number H (writing out) = write_number (library_of H.sheet) out
 call_number H (loading h e) = head_first h (load_number H.sheet e)
 call_number H (at h a) = head_first h (act_number (H.heads h) a)
+call_number H beginning = begin_refusal (length H.left) (library_of H.sheet)
+call_number H (taking out) = finished_refusal (length H.left)
 
 -- ---- what an accepted call adds
 
@@ -40,12 +46,15 @@ changed_at h x g j = cond (eqb j h) x (g j)
 abbrev pub with_history : Histories → ℕ → HeadHistory → Histories
 with_history H h x = record H { heads = changed_at h x H.heads }
 
--- a load adds the entry's kind byte and words as they stood in the last accepted open
+-- A load adds the entry's kind byte and words as they stood in the last accepted open. A begin leaves the bytes of that open's sheet to
+-- take, and a take those for which its output has no room; neither adds to a head's history.
 abbrev pub grown : Histories → Call → Histories
 grown H (opening s) = record H { sheet = s }
 grown H (writing out) = H
 grown H (loading h e) = with_history H h (adding (H.heads h) (load_event (entry_in H.sheet e)))
 grown H (at h a) = with_history H h (grown_by (H.heads h) a)
+grown H beginning = record H { left = H.sheet }
+grown H (taking out) = record H { left = drop (room 0 H.left out) H.left }
 
 -- a refused call adds nothing
 unfoldable pub advance : Histories → Call → Histories
@@ -62,6 +71,8 @@ accepted H (opening s) = plain 0
 accepted H (writing out) = wrote 0 (sheet_length (library_of H.sheet)) (written_of (library_of H.sheet) out)
 accepted H (loading h e) = plain 0
 accepted H (at h a) = acted (accepted_act (H.heads h) a)
+accepted H beginning = plain 0
+accepted H (taking out) = wrote 0 (room 0 H.left out) (over 0 H.left out)
 
 unfoldable pub reply_to : Histories → Call → Reply
 reply_to H c = cond (eqb (call_number H c) 0) (accepted H c) (refused (call_number H c) c)

@@ -1,10 +1,10 @@
-// The frame: twelve heads and one library. A call that is refused leaves the frame as it was.
+// The frame: twelve heads, one library, and the save that was begun last. A call that is refused leaves the frame as it was.
 #![tactic(auto)]
 
 ghost use Rattle.std.specs.Prelude.{◌≡◌, IfOk};
 ghost use Rattle.filter_core.specs.Refusal.{number_in};
 ghost use Rattle.heads.specs.Act.{run, run_two, rest, mark, back, drop, count};
-ghost use Rattle.frame.specs.Call.{opening, writing, loading, at};
+ghost use Rattle.frame.specs.Call.{opening, writing, loading, at, beginning, taking};
 ghost use Rattle.frame.specs.Calls.{head_at, fresh_frame, head_number, perform, plainly, acting, with_output, with_outputs, with_mark, with_count, with_written};
 ghost use Rattle.frame.specs.Refused.{RefusedLeaves};
 ghost use Rattle.frame.specs.Rows.{NumbersByRows};
@@ -15,12 +15,14 @@ use filter_core::Refusal;
 use heads::{Head, Snapshot};
 use library::Library;
 use runs::RunForm;
+use saves::Save;
 use std::array;
 
 #[derive(Clone, Drop)]
 pub struct Frame {
     pub heads: [Head; 12],
     pub library: Library,
+    pub save: Save,
 }
 
 // There are twelve heads.
@@ -35,13 +37,14 @@ fn check_head(head: usize) -> Result<(), Refusal>
 }
 
 impl Frame {
-    // Twelve empty heads and no library.
+    // Twelve empty heads, no library, and no save begun.
     pub fn fresh() -> Frame
         ensures { result ≡ fresh_frame }
     {
         Frame {
             heads: array::from_fn(|_| Head::empty()),
             library: library::none(),
+            save: Save::none(),
         }
     }
 
@@ -148,6 +151,22 @@ impl Frame {
         ensures { with_written result self.now output.new ≡ perform self.now (writing output.old) }
     {
         library::write(&self.library, output)
+    }
+
+    // Begins a save of the library as it stands: whatever is opened until its last byte is taken, it goes on with this sheet.
+    #[tactic(auto, unfolding(crate::specs::Calls::perform))]
+    pub fn begin(&mut self) -> Result<(), Refusal>
+        ensures { plainly result self.new ≡ perform self.old beginning }
+    {
+        self.save.begin(&self.library)
+    }
+
+    // Takes the next bytes of the save, as many as the output has room for, and answers how many.
+    #[tactic(auto, unfolding(crate::specs::Calls::perform))]
+    pub fn take(&mut self, output: &mut [u8]) -> Result<usize, Refusal>
+        ensures { with_written result self.new output.new ≡ perform self.old (taking output.old) }
+    {
+        self.save.take(output)
     }
 
     // A head as it stands.
