@@ -4,3 +4,4 @@ pub mod Picture
 pub mod Upholds
 pub mod Rows
 pub mod Counts
+pub mod Saves

@@ -57,7 +57,7 @@ upheld H cs S =
       left = rw r.frame;
     }
 
-fresh_picture : fresh_frame ≡ frame_for no_histories
+pub fresh_picture : fresh_frame ≡ frame_for no_histories
 unfolding table
 fresh_picture = rw (no_sheet, head_follows.fresh) refl
 

@@ -5,3 +5,4 @@ pub mod History
 pub mod Rows
 pub mod Demand
 pub mod Counts
+pub mod Saves

@@ -10,6 +10,7 @@ ghost use Rattle.frame.specs.Refused.{RefusedLeaves};
 ghost use Rattle.frame.specs.Rows.{NumbersByRows};
 ghost use Rattle.frame.specs.Demand.{Demand3};
 ghost use Rattle.frame.specs.Counts.{Counts};
+ghost use Rattle.frame.specs.Saves.{Saving};
 
 use filter_core::Refusal;
 use heads::{Head, Snapshot};
@@ -201,4 +202,10 @@ pub fn history()
 #[tactic(auto, using(crate::proofs::Counts::counts))]
 pub fn counts_fit()
     ensures { Counts }
+{}
+
+// A save hands out the sheet as it was when the save began, and leaves heads, marks and library as they are.
+#[tactic(auto, using(crate::proofs::Saves::saving))]
+pub fn opening_while_saving()
+    ensures { Saving }
 {}

@@ -46,10 +46,10 @@ no_library l n h = go l n h (cases_lt n 1)
     go l n (of_sheet {s} h) b = rw (count_in s) (some n h.size.fits.most b)
 
 module _ (k : ℕ) where
-  unfinished_step : Step (0 < k) 16 (unfinished_refusal k)
+  pub unfinished_step : Step (0 < k) 16 (unfinished_refusal k)
   unfinished_step = step_if 16 (ltb 0 k) (ltb-true 0 k) (λ q h. omega (arith, ltb-false 0 k q))
 
-  finished_step : Step (k ≡ 0) 17 (finished_refusal k)
+  pub finished_step : Step (k ≡ 0) 17 (finished_refusal k)
   finished_step = step_if 17 (ltb k 1) (λ q. omega (arith, ltb-true k 1 q)) (λ q h. omega (arith, ltb-false k 1 q))
 
   pub begin_row : (l : Library) (n : ℕ) → Held l n → First (BeginCase k n) (16 ∷ 2 ∷ []) (begin_refusal k l)
