@@ -49,7 +49,7 @@ unfolding perform
 opened f s h = rw (sheet_check s h) refl
 
 abbrev with_sheet : Histories → List ℕ → Histories
-with_sheet H s = record { sheet = s; heads = H.heads }
+with_sheet H s = record H { sheet = s }
 
 noted : (H : Histories) (s : List ℕ) → Sheet s → advance H (opening s) ≡ with_sheet H s
 unfolding advance call_number

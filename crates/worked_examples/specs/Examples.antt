@@ -30,7 +30,7 @@ use Rattle.loads.specs.Load.{filter_of}
 use Rattle.runs.specs.declared.form.RunForm.TheVariants.{Plain, Stride}
 use Rattle.heads.specs.Act.{run, rest, mark, back, count, answered, marked, ran, counted}
 use Rattle.heads.specs.Snapshot.{count_refusal}
-use Rattle.frame.specs.Call.{Call, opening, loading, at, plain, acted}
+use Rattle.frame.specs.Call.{Call, opening, loading, at, beginning, taking, plain, wrote, acted}
 use Rattle.frame.specs.History.{no_histories, replies_to}
 
 -- ---- the numbers
@@ -138,6 +138,21 @@ sewing =
     ∷ loading 0 0
     ∷ at 0 count
     ∷ at 12 count
+    ∷ []
+
+-- a sheet is saved in parts, while another is opened
+abbrev pub slow_card : List Call
+slow_card =
+    beginning
+    ∷ opening (series_sheet 2)
+    ∷ taking (0xee ∷ [])
+    ∷ beginning
+    ∷ taking (replicate 5 0xee)
+    ∷ opening sheet
+    ∷ beginning
+    ∷ taking []
+    ∷ taking (replicate 12 0xee)
+    ∷ taking (0xee ∷ [])
     ∷ []
 
 -- ---- the table
@@ -257,3 +272,18 @@ pub record WorkedExamples : Type 0 where
       ∷ []
   pub count_last : count_refusal 4294967294 1 ≡ 0
   pub count_over : count_refusal 4294967295 1 ≡ 18
+  -- document 02, h: with no library 2; a take of no save 17; five bytes of the sheet that was open at the begin, and behind them, with another
+  -- open, its other ten, so its edition too; 16 between them, and a take into no places that ends nothing; a take behind the last byte 17
+  pub save_replies :
+      replies_to no_histories slow_card
+      ≡ plain 2
+      ∷ plain 0
+      ∷ wrote 17 0 (0xee ∷ [])
+      ∷ plain 0
+      ∷ wrote 0 5 (0x01 ∷ 0x02 ∷ 0x42 ∷ 0x00 ∷ 0x00 ∷ [])
+      ∷ plain 0
+      ∷ plain 16
+      ∷ wrote 0 0 []
+      ∷ wrote 0 10 (0x00 ∷ 0x3f ∷ replicate 8 0 ++ 0xee ∷ 0xee ∷ [])
+      ∷ wrote 17 0 (0xee ∷ [])
+      ∷ []
