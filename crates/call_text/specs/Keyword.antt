@@ -2,7 +2,7 @@
 use Rattle.std.specs.Prelude.{ℕ, List, [], ◌∷◌, Option, codes}
 use Rattle.form_text.specs.Name.{look_up}
 use Rattle.call_text.specs.declared.keyword.Keyword.{Keyword}
-use Rattle.call_text.specs.declared.keyword.Keyword.TheVariants.{Open, Load, Run, Two, Rest, Mark, Back, Drop, Write, Check, Lookup, Head, Check1, Lookup1, Convert, Count}
+use Rattle.call_text.specs.declared.keyword.Keyword.TheVariants.{Open, Load, Run, Two, Rest, Mark, Back, Drop, Write, Check, Lookup, Head, Check1, Lookup1, Convert, Count, Begin, Take}
 
 abbrev pub keywords : List (List ℕ × Keyword)
 keywords =
@@ -22,6 +22,8 @@ keywords =
     ∷ (codes "lookup1", Lookup1)
     ∷ (codes "convert", Convert)
     ∷ (codes "count", Count)
+    ∷ (codes "begin", Begin)
+    ∷ (codes "take", Take)
     ∷ []
 
 abbrev pub keyword_of : List ℕ → Option Keyword

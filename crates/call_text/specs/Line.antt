@@ -10,13 +10,18 @@ use Rattle.call_text.specs.Keyword.{keyword_of}
 use Rattle.call_text.specs.declared.keyword.Keyword.{Keyword}
 use Rattle.call_text.specs.declared.keyword.Keyword.TheVariants as keyword
 use Rattle.call_text.specs.declared.line.Call.{Call}
-use Rattle.call_text.specs.declared.line.Call.TheVariants.{Open, Load, Run, Two, Rest, Mark, Back, Drop, Write, Check, Lookup, Head, Check1, Lookup1, Convert, Count}
+use Rattle.call_text.specs.declared.line.Call.TheVariants.{Open, Load, Run, Two, Rest, Mark, Back, Drop, Write, Check, Lookup, Head, Check1, Lookup1, Convert, Count, Begin, Take}
 use Rattle.call_text.specs.declared.line.BadLine.{BadLine}
 use Rattle.call_text.specs.declared.line.BadLine.TheVariants.{NoCall, Words}
 
 -- a call by the texts of its buffers and sheets
 abbrev pub CallOf : Type 0
 CallOf = Call (List ℕ)
+
+-- not a word
+abbrev pub begin_call : List (List ℕ) → Option CallOf
+begin_call [] = Some Begin
+begin_call _ = None
 
 -- HEAD
 abbrev pub one_number : List (List ℕ) → Option ℕ
@@ -74,6 +79,8 @@ call_for keyword.Check1 fields = option_map (paired Check1) (buffer_and_number f
 call_for keyword.Lookup1 fields = option_map (paired Lookup1) (buffer_and_number fields)
 call_for keyword.Convert fields = convert_call fields
 call_for keyword.Count fields = option_map Count (one_number fields)
+call_for keyword.Begin fields = begin_call fields
+call_for keyword.Take fields = option_map Take (one_buffer fields)
 
 -- an answer of `call_of`: none for a silent line
 abbrev pub Answer : Type 0 → Type 0
@@ -113,6 +120,8 @@ text_call (Check1 s e) = Check1 s.now e
 text_call (Lookup1 s e) = Lookup1 s.now e
 text_call (Convert v s o) = Convert v s.now o.now
 text_call (Count h) = Count h
+text_call Begin = Begin
+text_call (Take o) = Take o.now
 
 abbrev pub text_answer : Answer (Bor (List ℕ)) → Answer (List ℕ)
 text_answer (Ok call) = Ok (option_map text_call call)

@@ -22,6 +22,8 @@ pub enum Keyword {
     Lookup1,
     Convert,
     Count,
+    Begin,
+    Take,
 }
 
 // A match over the text of a line, whose first word names the call.
@@ -45,6 +47,8 @@ pub fn keyword_of(s: &[u8]) -> Option<Keyword>
         b"lookup1" => Some(Keyword::Lookup1),
         b"convert" => Some(Keyword::Convert),
         b"count" => Some(Keyword::Count),
+        b"begin" => Some(Keyword::Begin),
+        b"take" => Some(Keyword::Take),
         _ => None,
     }
 }

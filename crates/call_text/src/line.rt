@@ -2,7 +2,7 @@
 
 ghost use Rattle.std.specs.Prelude.{◌≡◌, option_map, option_copied};
 ghost use Rattle.form_text.specs.Field.{fields_left};
-ghost use Rattle.call_text.specs.Line.{one_number, two_numbers, one_buffer, buffer_and_number, convert_call, run_call, two_call, call_for, call_of, text_pair, text_call, text_answer};
+ghost use Rattle.call_text.specs.Line.{one_number, two_numbers, one_buffer, buffer_and_number, begin_call, convert_call, run_call, two_call, call_for, call_of, text_pair, text_call, text_answer};
 
 use crate::buffer::units_field;
 use crate::edition::edition_of;
@@ -67,6 +67,8 @@ pub enum Call<B> {
         output: B,
     },
     Count(usize),
+    Begin,
+    Take(B),
 }
 
 // Why a line is no call.
@@ -79,6 +81,14 @@ pub enum BadLine {
 }
 
 // Each reader below has words of its own behind the keyword: one for any two words would be told how each is read, and be no shorter.
+
+// Not a word.
+fn begin_call<'a>(fields: Fields<'a>) -> Option<Call<&'a [u8]>>
+    ensures { option_map text_call result ≡ begin_call (fields_left fields.entry) }
+{
+    fields.end()?;
+    Some(Call::Begin)
+}
 
 // HEAD
 fn one_number(fields: Fields<'_>) -> Option<usize>
@@ -193,6 +203,8 @@ fn call_for<'a>(keyword: Keyword, fields: Fields<'a>) -> Option<Call<&'a [u8]>>
         }
         Keyword::Convert => convert_call(fields)?,
         Keyword::Count => Call::Count(one_number(fields)?),
+        Keyword::Begin => begin_call(fields)?,
+        Keyword::Take => Call::Take(one_buffer(fields)?),
     };
     Some(call)
 }

@@ -68,6 +68,12 @@ fn write(frame: &Frame, output: &[u8], out: &mut Output) {
     put_written(out, answer, output.as_slice());
 }
 
+fn take(frame: &mut Frame, output: &[u8], out: &mut Output) {
+    let mut output = units_of::<u8, BYTES>(output);
+    let answer = frame.take(output.as_mut_slice());
+    put_written(out, answer, output.as_slice());
+}
+
 fn convert(wanted: Edition, sheet: &[u8], output: &[u8], out: &mut Output) {
     let sheet = units_of::<u8, BYTES>(sheet);
     let mut output = units_of::<u8, BYTES>(output);
@@ -137,6 +143,8 @@ fn of_call(call: Call<&[u8]>, frame: &mut Frame, out: &mut Output) {
             output,
         } => convert(wanted, sheet, output, out),
         Call::Count(head) => put_counted(out, frame.count(head).map(|n| n as usize)),
+        Call::Begin => put_number(out, frame.begin()),
+        Call::Take(output) => take(frame, output, out),
     }
 }
 
