@@ -4,4 +4,5 @@ pub mod Picture
 pub mod Upholds
 pub mod Rows
 pub mod Counts
+pub mod Without
 pub mod Saves

@@ -20,26 +20,28 @@ use Rattle.saves.specs.Save.{zero_bytes, with_left, left_of, begin_refusal}
 use Rattle.saves.specs.Parts.{part_of, Part}
 use Rattle.saves.proofs.Rows.{unfinished_step, finished_step}
 use Rattle.saves.proofs.Parts.{parts}
-use Rattle.frame.specs.Call.{Call, opening, writing, loading, at, beginning, taking, Reply, wrote}
+use Rattle.frame.specs.Call.{Call, opening, writing, loading, at, beginning, taking, wrote}
 use Rattle.frame.specs.Calls.{Done, with_save, perform}
 use Rattle.frame.specs.History.{Histories, no_histories, call_number, grown, advance, advance_all, reply_to}
 use Rattle.frame.specs.Demand.{replies_from, frame_after, Demand3}
 use Rattle.frame.proofs.Sound.{Sound, sound_advance, sound_none}
 use Rattle.frame.proofs.Picture.{frame_for, follows}
 use Rattle.frame.proofs.Upholds.{fresh_picture, demand3}
-use Rattle.frame.specs.Saves.{is_saving, without_saving, other_replies, parts_with, parts_from, saved_with, saved_from, after, parts_of, saved_in, written_count, Unfinished, Saving}
+use Rattle.frame.proofs.Without.{beside, frame_beside, replies_beside}
+use Rattle.frame.specs.Without.{without, other_replies}
+use Rattle.frame.specs.Saves.{is_saving, parts_with, parts_from, saved_with, saved_from, after, parts_of, saved_in, written_count, Unfinished, Saving}
 use Rattle.frame.specs.declared.Frame.{Frame}
 
 -- ---- beside another save, the other calls do the same
 
-abbrev beside : Save → Done → Done
-beside v d = record { reply = d.reply; frame = with_save d.frame v }
+abbrev with_other : Save → Done → Done
+with_other v d = record { reply = d.reply; frame = with_save d.frame v }
 
 module _ (f : Frame) (v : Save) where
   abbrev Aside : Call → Type 0
-  Aside c = perform (with_save f v) c ≡ beside v (perform f c)
+  Aside c = perform (with_save f v) c ≡ with_other v (perform f c)
 
-  either : (b : Bool) (d d' e e' : Done) → d' ≡ beside v d → e' ≡ beside v e → cond b d' e' ≡ beside v (cond b d e)
+  either : (b : Bool) (d d' e e' : Done) → d' ≡ with_other v d → e' ≡ with_other v e → cond b d' e' ≡ with_other v (cond b d e)
   either true d d' e e' p q = p
   either false d d' e e' p q = q
 
@@ -64,50 +66,51 @@ only_the_save f v (at h a) q = absurd (clash q)
 only_the_save f v beginning q = refl
 only_the_save f v (taking out) q = refl
 
-record Same (f : Frame) (v : Save) (cs : List Call) : Type 0 where
-  replies : other_replies (with_save f v) cs ≡ replies_from f (without_saving cs)
-  heads : (frame_after (with_save f v) cs).heads ≡ (frame_after f (without_saving cs)).heads
-  library : (frame_after (with_save f v) cs).library ≡ (frame_after f (without_saving cs)).library
+same_frame : (f : Frame) (v : Save) (cs : List Call) → frame_after (with_save f v) cs ≡ with_save (frame_after f (without is_saving cs)) (frame_after (with_save f v) cs).save
+same_frame = frame_beside is_saving with_save (λ f. f.save) (λ f v. refl) aside only_the_save
 
-same_first : (f : Frame) (v : Save) (c : Call) (cs : List Call)
-    → Same f (perform (with_save f v) c).frame.save cs → Same (perform f c).frame v cs → Same f v (c ∷ cs)
-unfolding other_replies replies_from frame_after without_saving
-same_first f v c cs r t = go (is_saving c) refl
-  where
-    go : (b : Bool) → is_saving c ≡ b → Same f v (c ∷ cs)
-    go true q =
-        record {
-          replies = rw (q, only_the_save f v c q) r.replies;
-          heads = rw q (ap (λ (g : Frame). (frame_after g cs).heads) (only_the_save f v c q) ∙ r.heads);
-          library = rw q (ap (λ (g : Frame). (frame_after g cs).library) (only_the_save f v c q) ∙ r.library);
-        }
-    go false q =
-        record {
-          replies = rw (q, aside f v c q) (ap (λ (rs : List Reply). (perform f c).reply ∷ rs) t.replies);
-          heads = rw q (ap (λ (d : Done). (frame_after d.frame cs).heads) (aside f v c q) ∙ t.heads);
-          library = rw q (ap (λ (d : Done). (frame_after d.frame cs).library) (aside f v c q) ∙ t.library);
-        }
+same_replies : (f : Frame) (v : Save) (cs : List Call) → other_replies is_saving (with_save f v) cs ≡ replies_from f (without is_saving cs)
+same_replies = replies_beside is_saving with_save (λ f. f.save) (λ f v. refl) aside only_the_save
 
-same : (f : Frame) (v : Save) (cs : List Call) → Same f v cs
-unfolding other_replies replies_from frame_after without_saving
-same f v [] = record { replies = refl; heads = refl; library = refl }
-same f v (c ∷ cs) = same_first f v c cs (same f (perform (with_save f v) c).frame.save cs) (same (perform f c).frame v cs)
+-- ---- the same of the histories
+
+module _ (H : Histories) where
+  grown_aside : (l : List ℕ) (b : Bool) (G : Histories) → cond b (record G { left = l }) (record H { left = l }) ≡ record (cond b G H) { left = l }
+  grown_aside l true G = refl
+  grown_aside l false G = refl
+
+  histories_aside : (l : List ℕ) (c : Call) → is_saving c ≡ false → advance (record H { left = l }) c ≡ record (advance H c) { left = l }
+  unfolding advance call_number
+  histories_aside l (opening s) q = grown_aside l (eqb (call_number H (opening s)) 0) (grown H (opening s))
+  histories_aside l (writing out) q = grown_aside l (eqb (call_number H (writing out)) 0) (grown H (writing out))
+  histories_aside l (loading h e) q = grown_aside l (eqb (call_number H (loading h e)) 0) (grown H (loading h e))
+  histories_aside l (at h a) q = grown_aside l (eqb (call_number H (at h a)) 0) (grown H (at h a))
+  histories_aside l beginning q = absurd (clash (sym q))
+  histories_aside l (taking out) q = absurd (clash (sym q))
+
+  only_left : (b : Bool) (l : List ℕ) → cond b (record H { left = l }) H ≡ record H { left = (cond b (record H { left = l }) H).left }
+  only_left true l = refl
+  only_left false l = refl
+
+  only_the_left : (c : Call) → is_saving c ≡ true → advance H c ≡ record H { left = (advance H c).left }
+  unfolding advance
+  only_the_left (opening s) q = absurd (clash q)
+  only_the_left (writing out) q = absurd (clash q)
+  only_the_left (loading h e) q = absurd (clash q)
+  only_the_left (at h a) q = absurd (clash q)
+  only_the_left beginning q = only_left (eqb (call_number H beginning) 0) H.sheet
+  only_the_left (taking out) q = only_left (eqb (call_number H (taking out)) 0) (drop (room 0 H.left out) H.left)
+
+same_histories : (H : Histories) (l : List ℕ) (cs : List Call)
+    → advance_all (record H { left = l }) cs ≡ record (advance_all H (without is_saving cs)) { left = (advance_all (record H { left = l }) cs).left }
+unfolding advance_all
+same_histories = beside is_saving advance advance_all (λ H l. record H { left = l }) (λ H. H.left) (λ H. refl) (λ H c cs. refl) (λ H l. refl) histories_aside (λ H l c q. only_the_left (record H { left = l }) c q)
 
 -- ---- the parts
 
 -- what is left changes by begins and takes alone
 same_left : (H : Histories) (c : Call) → is_saving c ≡ false → (advance H c).left ≡ H.left
-unfolding advance
-same_left H c q = go c (eqb (call_number H c) 0) q
-  where
-    go : (c : Call) (b : Bool) → is_saving c ≡ false → (cond b (grown H c) H).left ≡ H.left
-    go c false q = refl
-    go (opening s) true q = refl
-    go (writing out) true q = refl
-    go (loading h e) true q = refl
-    go (at h a) true q = refl
-    go beginning true q = absurd (clash (sym q))
-    go (taking out) true q = absurd (clash (sym q))
+same_left H c q = ap (λ (G : Histories). G.left) (histories_aside H H.left c q)
 
 -- the parts with what is left, and the sheet that they are of, after a call
 abbrev Joined : List ℕ → List ℕ → Histories → Type 0
@@ -213,9 +216,11 @@ joined cs = rw ((demand3 cs).left, fresh_picture) (joined_from no_histories [] [
 pub saving : Saving
 saving =
     record {
-      replies = λ f cs. (same f f.save cs).replies;
-      heads = λ f cs. (same f f.save cs).heads;
-      library = λ f cs. (same f f.save cs).library;
+      replies = λ f cs. same_replies f f.save cs;
+      heads = λ f cs. ap (λ (g : Frame). g.heads) (same_frame f f.save cs);
+      library = λ f cs. ap (λ (g : Frame). g.library) (same_frame f f.save cs);
+      histories = λ H cs. ap (λ (G : Histories). G.heads) (same_histories H H.left cs);
+      sheet = λ H cs. ap (λ (G : Histories). G.sheet) (same_histories H H.left cs);
       others = λ f c q. ap (λ (d : Done). d.frame.save) (aside f f.save c q);
       joined = joined;
       whole = λ cs z. sym (append-nil (parts_of cs)) ∙ ap (λ (s : List ℕ). parts_of cs ++ s) (sym z) ∙ joined cs;

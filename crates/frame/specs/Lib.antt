@@ -5,4 +5,5 @@ pub mod History
 pub mod Rows
 pub mod Demand
 pub mod Counts
+pub mod Without
 pub mod Saves

@@ -3,11 +3,12 @@ use Rattle.std.specs.Prelude.{ℕ, cond, Bool, true, false, ◌≡◌, List, [],
 use Rattle.saves.specs.Save.{left_of}
 use Rattle.frame.specs.Call.{Call, opening, writing, loading, at, beginning, taking, Reply, plain, wrote, acted, number_in}
 use Rattle.frame.specs.Calls.{fresh_frame, perform}
-use Rattle.frame.specs.History.{Histories, no_histories, call_number, advance}
+use Rattle.frame.specs.History.{Histories, no_histories, call_number, advance, advance_all}
 use Rattle.frame.specs.Demand.{replies_from, frame_after}
+use Rattle.frame.specs.Without.{without, other_replies}
 use Rattle.frame.specs.declared.Frame.{Frame}
 
--- ---- a list without its begins and takes
+-- ---- the calls of a save
 
 abbrev pub is_saving : Call → Bool
 is_saving (opening s) = false
@@ -16,17 +17,6 @@ is_saving (loading h e) = false
 is_saving (at h a) = false
 is_saving beginning = true
 is_saving (taking out) = true
-
-unfoldable pub without_saving : List Call → List Call
-without_saving [] = []
-without_saving (c ∷ cs) = cond (is_saving c) (without_saving cs) (c ∷ without_saving cs)
-
--- what the calls reply, but for the begins and takes
-unfoldable pub other_replies : Frame → List Call → List Reply
-other_replies f [] = []
-other_replies f (c ∷ cs) =
-    let rs = other_replies (perform f c).frame cs in
-    cond (is_saving c) rs ((perform f c).reply ∷ rs)
 
 -- ---- the parts of a save
 
@@ -92,9 +82,12 @@ pub record Unfinished (f : Frame) : Type 0 where
 
 pub record Saving : Type 0 where
   -- heads with their marks, the library and what the other calls reply are those of the list without its begins and takes
-  pub replies : (f : Frame) (cs : List Call) → other_replies f cs ≡ replies_from f (without_saving cs)
-  pub heads : (f : Frame) (cs : List Call) → (frame_after f cs).heads ≡ (frame_after f (without_saving cs)).heads
-  pub library : (f : Frame) (cs : List Call) → (frame_after f cs).library ≡ (frame_after f (without_saving cs)).library
+  pub replies : (f : Frame) (cs : List Call) → other_replies is_saving f cs ≡ replies_from f (without is_saving cs)
+  pub heads : (f : Frame) (cs : List Call) → (frame_after f cs).heads ≡ (frame_after f (without is_saving cs)).heads
+  pub library : (f : Frame) (cs : List Call) → (frame_after f cs).library ≡ (frame_after f (without is_saving cs)).library
+  -- so are the heads' histories and the sheet that was opened last
+  pub histories : (H : Histories) (cs : List Call) → (advance_all H cs).heads ≡ (advance_all H (without is_saving cs)).heads
+  pub sheet : (H : Histories) (cs : List Call) → (advance_all H cs).sheet ≡ (advance_all H (without is_saving cs)).sheet
   -- no other call moves the save
   pub others : (f : Frame) (c : Call) → is_saving c ≡ false → (perform f c).frame.save ≡ f.save
   -- the parts since the last accepted begin, with what is left behind them, are the sheet as it stood then, whatever was opened since

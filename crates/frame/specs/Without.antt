@@ -1,0 +1,16 @@
+-- A list of calls without those of a kind.
+use Rattle.std.specs.Prelude.{cond, Bool, List, [], ◌∷◌}
+use Rattle.frame.specs.Call.{Call, Reply}
+use Rattle.frame.specs.Calls.{perform}
+use Rattle.frame.specs.declared.Frame.{Frame}
+
+unfoldable pub without : (Call → Bool) → List Call → List Call
+without kind [] = []
+without kind (c ∷ cs) = cond (kind c) (without kind cs) (c ∷ without kind cs)
+
+-- what the calls reply, but for those of the kind
+unfoldable pub other_replies : (Call → Bool) → Frame → List Call → List Reply
+other_replies kind f [] = []
+other_replies kind f (c ∷ cs) =
+    let rs = other_replies kind (perform f c).frame cs in
+    cond (kind c) rs ((perform f c).reply ∷ rs)
