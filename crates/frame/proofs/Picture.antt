@@ -21,12 +21,12 @@ use Rattle.heads.specs.History.{load_event, HeadHistory, act_number, adding, gro
 use Rattle.heads.specs.Follows.{head_for}
 use Rattle.lists.proofs.Tables.{get_or_table, table_ext, set_table}
 use Rattle.heads.proofs.Follows.{head_follows}
-use Rattle.saves.specs.Save.{with_left, begin_refusal, take_refusal}
+use Rattle.saves.specs.Save.{with_left, begin_refusal, begin_of, take_refusal}
 use Rattle.saves.specs.Rows.{BeginCase, no_entries}
 use Rattle.saves.proofs.Rows.{begin_row}
 use Rattle.saves.proofs.Parts.{begin_accepted, begin_refused, left_begun, take_refused}
 use Rattle.frame.specs.Call.{Call, opening, writing, loading, at, beginning, taking, plain, acted}
-use Rattle.frame.specs.Calls.{with_head, with_save, settled, perform}
+use Rattle.frame.specs.Calls.{with_head, settled, perform}
 use Rattle.frame.specs.History.{Histories, call_number, with_history, advance, reply_to}
 use Rattle.frame.proofs.Sound.{Sound}
 use Rattle.saves.specs.declared.Save.{Save}
@@ -35,7 +35,7 @@ use Rattle.frame.specs.declared.Frame.{Frame}
 abbrev pub frame_for : Histories → Frame
 frame_for H = record { heads = table 12 (λ h. head_for (H.heads h)); library = library_of H.sheet; save = with_left H.left }
 
-cond_out : {A B : Type 0} (g : A → B) (b : Bool) (x y : A) → cond b (g x) (g y) ≡ g (cond b x y)
+pub cond_out : {A B : Type 0} (g : A → B) (b : Bool) (x y : A) → cond b (g x) (g y) ≡ g (cond b x y)
 cond_out g true x y = refl
 cond_out g false x y = refl
 
@@ -123,22 +123,23 @@ has_entries {n} e (later p (later q none)) = omega (arith, ne_zero)
     ne_zero : n ≡ 0 → ⊥
     ne_zero z = q (no_entries z)
 
+-- and leaves all of the sheet
+pub begun_save : (H : Histories) → Sound H → begin_refusal (length H.left) (library_of H.sheet) ≡ 0
+    → begin_of (with_left H.left) (library_of H.sheet) ≡ with_left H.sheet
+begun_save H S z =
+    begin_accepted (with_left H.left) (library_of H.sheet) z
+    ∙ ap with_left (left_begun H.sheet (S.sheet.whole (has_entries z (begin_row (length H.left) (library_of H.sheet) (entries_of H.sheet) S.sheet.held))))
+
 follows_begin : (H : Histories) → Sound H → Follows H beginning
 unfolding perform reply_to advance call_number
 follows_begin H S = go (eqb number 0) refl
   where
-    v : Save
-    v = with_left H.left
-
     number : ℕ
     number = begin_refusal (length H.left) (library_of H.sheet)
 
     go : (b : Bool) → eqb number 0 ≡ b → Follows H beginning
-    go true q =
-        let z = eqb-true number 0 q in
-        let s = S.sheet.whole (has_entries z (begin_row (length H.left) (library_of H.sheet) (entries_of H.sheet) S.sheet.held)) in
-        rw (begin_accepted v (library_of H.sheet) z, z) (ap (λ (l : List ℕ). record { reply = plain 0; frame = with_save (frame_for H) (with_left l) }) (left_begun H.sheet s))
-    go false q = rw (begin_refused v (library_of H.sheet) (eqb-false number 0 q), q) refl
+    go true q = let z = eqb-true number 0 q in rw (begun_save H S z, z) refl
+    go false q = rw (begin_refused (with_left H.left) (library_of H.sheet) (eqb-false number 0 q), q) refl
 
 follows_take : (H : Histories) (out : List ℕ) → Follows H (taking out)
 unfolding perform reply_to advance call_number

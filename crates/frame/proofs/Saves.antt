@@ -1,13 +1,13 @@
 -- Saving over every list of calls. Assumes nothing.
 use Prim.Native.Nat.{ℕ, ◌+◌, ◌*◌, ◌<◌}
-use mathlib.Core.Path.{◌≡◌, refl, sym, ap, ◌∙◌}
+use mathlib.Core.Path.{◌≡◌, refl, sym, ap, subst, ◌∙◌}
 use mathlib.Core.Bool.{Bool, true, false, cond}
 use mathlib.Core.List.{List, [], ◌∷◌, ◌++◌, append_assoc, append-nil}
 use native.Mathlib.Nat.{min-zero}
 use native.Mathlib.Omega.{arith}
 use borrow.Author.Tests.{clash}
 use lib.Dec.{eqb, ltb, leb}
-use lib.ListN.{length, drop, drop_of_length-le}
+use lib.ListN.{length, drop, drop_of_length-le, length-append}
 use Rattle.lists.specs.Over.{room}
 use Rattle.lists.proofs.Over.{over_past}
 use Rattle.filter_core.specs.Rows.{◌then◌}
@@ -16,142 +16,158 @@ use Rattle.sheets.specs.Sheet.{check_of}
 use Rattle.library.specs.Library.{count, write_number}
 use Rattle.library.specs.declared.Library.{Library}
 use Rattle.saves.specs.declared.Save.{Save}
-use Rattle.saves.specs.Save.{zero_bytes, with_left, left_of, begin_refusal}
-use Rattle.saves.specs.Parts.{part_of, Part}
+use Rattle.saves.specs.Save.{zero_bytes, left_of}
 use Rattle.saves.proofs.Rows.{unfinished_step, finished_step}
-use Rattle.saves.proofs.Parts.{parts}
-use Rattle.frame.specs.Call.{Call, opening, writing, loading, at, beginning, taking, wrote}
+use Rattle.saves.proofs.Parts.{parts, begin_refused, none_left}
+use Rattle.frame.specs.Call.{Call, opening, writing, loading, at, beginning, taking, number_in, wrote}
 use Rattle.frame.specs.Calls.{Done, with_save, perform}
-use Rattle.frame.specs.History.{Histories, no_histories, call_number, grown, advance, advance_all, reply_to}
-use Rattle.frame.specs.Demand.{replies_from, frame_after, Demand3}
-use Rattle.frame.proofs.Sound.{Sound, sound_advance, sound_none}
-use Rattle.frame.proofs.Picture.{frame_for, follows}
-use Rattle.frame.proofs.Upholds.{fresh_picture, demand3}
-use Rattle.frame.proofs.Without.{beside, frame_beside, replies_beside}
+use Rattle.frame.specs.History.{Histories, no_histories, call_number, grown, advance, advance_all}
+use Rattle.frame.specs.Demand.{replies_from, frame_after}
 use Rattle.frame.specs.Without.{without, other_replies}
-use Rattle.frame.specs.Saves.{is_saving, parts_with, parts_from, saved_with, saved_from, after, parts_of, saved_in, written_count, Unfinished, Saving}
+use Rattle.frame.specs.Saves.{is_begin_or_take, written_count, part_in, parts_from, NoneBegun, no_call, refused_begin, other_call, Joined, begun_after, sheet_after, Saving}
+use Rattle.frame.proofs.Sound.{Sound, sound_all, sound_none}
+use Rattle.frame.proofs.Picture.{cond_out, begun_save, frame_for}
+use Rattle.frame.proofs.Upholds.{after_calls}
+use Rattle.frame.proofs.Without.{beside, frame_beside, replies_beside}
 use Rattle.frame.specs.declared.Frame.{Frame}
 
 -- ---- beside another save, the other calls do the same
 
-abbrev with_other : Save → Done → Done
-with_other v d = record { reply = d.reply; frame = with_save d.frame v }
+abbrev done_with_save : Save → Done → Done
+done_with_save v d = record { reply = d.reply; frame = with_save d.frame v }
 
 module _ (f : Frame) (v : Save) where
   abbrev Aside : Call → Type 0
-  Aside c = perform (with_save f v) c ≡ with_other v (perform f c)
+  Aside c = perform (with_save f v) c ≡ done_with_save v (perform f c)
 
-  either : (b : Bool) (d d' e e' : Done) → d' ≡ with_other v d → e' ≡ with_other v e → cond b d' e' ≡ with_other v (cond b d e)
-  either true d d' e e' p q = p
-  either false d d' e e' p q = q
+  either_aside : (b : Bool) (d d' e e' : Done) → d' ≡ done_with_save v d → e' ≡ done_with_save v e → cond b d' e' ≡ done_with_save v (cond b d e)
+  either_aside true d d' e e' p q = p
+  either_aside false d d' e e' p q = q
 
-  aside : (c : Call) → is_saving c ≡ false → Aside c
+  aside : (c : Call) → is_begin_or_take c ≡ false → Aside c
   unfolding perform
-  aside (opening s) q = either (eqb (check_of s) 0) _ _ _ _ refl refl
+  aside (opening s) q = either_aside (eqb (check_of s) 0) _ _ _ _ refl refl
   aside (writing out) q = refl
-  aside (loading h e) q = either (ltb 11 h) _ _ _ _ refl (either (leb (count f.library) e) _ _ _ _ refl refl)
-  aside (at h a) q = either (ltb 11 h) _ _ _ _ refl refl
+  aside (loading h e) q = either_aside (ltb 11 h) _ _ _ _ refl (either_aside (leb (count f.library) e) _ _ _ _ refl refl)
+  aside (at h a) q = either_aside (ltb 11 h) _ _ _ _ refl refl
   aside beginning q = absurd (clash (sym q))
   aside (taking out) q = absurd (clash (sym q))
 
 -- ---- a list without its begins and takes
 
 -- a begin and a take change the save alone
-only_the_save : (f : Frame) (v : Save) (c : Call) → is_saving c ≡ true → (perform (with_save f v) c).frame ≡ with_save f (perform (with_save f v) c).frame.save
+alone : (f : Frame) (c : Call) → is_begin_or_take c ≡ true → (perform f c).frame ≡ with_save f (perform f c).frame.save
 unfolding perform
-only_the_save f v (opening s) q = absurd (clash q)
-only_the_save f v (writing out) q = absurd (clash q)
-only_the_save f v (loading h e) q = absurd (clash q)
-only_the_save f v (at h a) q = absurd (clash q)
-only_the_save f v beginning q = refl
-only_the_save f v (taking out) q = refl
+alone f (opening s) q = absurd (clash q)
+alone f (writing out) q = absurd (clash q)
+alone f (loading h e) q = absurd (clash q)
+alone f (at h a) q = absurd (clash q)
+alone f beginning q = refl
+alone f (taking out) q = refl
 
-same_frame : (f : Frame) (v : Save) (cs : List Call) → frame_after (with_save f v) cs ≡ with_save (frame_after f (without is_saving cs)) (frame_after (with_save f v) cs).save
-same_frame = frame_beside is_saving with_save (λ f. f.save) (λ f v. refl) aside only_the_save
+same_frame : (f : Frame) (cs : List Call) → frame_after f cs ≡ with_save (frame_after f (without is_begin_or_take cs)) (frame_after f cs).save
+same_frame f = frame_beside is_begin_or_take with_save (λ f. f.save) (λ f v. refl) aside (λ f v c q. alone (with_save f v) c q) f f.save
 
-same_replies : (f : Frame) (v : Save) (cs : List Call) → other_replies is_saving (with_save f v) cs ≡ replies_from f (without is_saving cs)
-same_replies = replies_beside is_saving with_save (λ f. f.save) (λ f v. refl) aside only_the_save
+same_replies : (f : Frame) (cs : List Call) → other_replies is_begin_or_take f cs ≡ replies_from f (without is_begin_or_take cs)
+same_replies f = replies_beside is_begin_or_take with_save (λ f. f.save) (λ f v. refl) aside (λ f v c q. alone (with_save f v) c q) f f.save
 
 -- ---- the same of the histories
 
-module _ (H : Histories) where
-  grown_aside : (l : List ℕ) (b : Bool) (G : Histories) → cond b (record G { left = l }) (record H { left = l }) ≡ record (cond b G H) { left = l }
-  grown_aside l true G = refl
-  grown_aside l false G = refl
+-- with another list of bytes that are left
+abbrev with_bytes : Histories → List ℕ → Histories
+with_bytes H l = record H { left = l }
 
-  histories_aside : (l : List ℕ) (c : Call) → is_saving c ≡ false → advance (record H { left = l }) c ≡ record (advance H c) { left = l }
+module _ (H : Histories) where
+  histories_aside : (l : List ℕ) (c : Call) → is_begin_or_take c ≡ false → advance (with_bytes H l) c ≡ with_bytes (advance H c) l
   unfolding advance call_number
-  histories_aside l (opening s) q = grown_aside l (eqb (call_number H (opening s)) 0) (grown H (opening s))
-  histories_aside l (writing out) q = grown_aside l (eqb (call_number H (writing out)) 0) (grown H (writing out))
-  histories_aside l (loading h e) q = grown_aside l (eqb (call_number H (loading h e)) 0) (grown H (loading h e))
-  histories_aside l (at h a) q = grown_aside l (eqb (call_number H (at h a)) 0) (grown H (at h a))
+  histories_aside l (opening s) q = cond_out (λ G. with_bytes G l) (eqb (call_number H (opening s)) 0) (grown H (opening s)) H
+  histories_aside l (writing out) q = cond_out (λ G. with_bytes G l) (eqb (call_number H (writing out)) 0) (grown H (writing out)) H
+  histories_aside l (loading h e) q = cond_out (λ G. with_bytes G l) (eqb (call_number H (loading h e)) 0) (grown H (loading h e)) H
+  histories_aside l (at h a) q = cond_out (λ G. with_bytes G l) (eqb (call_number H (at h a)) 0) (grown H (at h a)) H
   histories_aside l beginning q = absurd (clash (sym q))
   histories_aside l (taking out) q = absurd (clash (sym q))
 
-  only_left : (b : Bool) (l : List ℕ) → cond b (record H { left = l }) H ≡ record H { left = (cond b (record H { left = l }) H).left }
+  only_left : (b : Bool) (l : List ℕ) → cond b (with_bytes H l) H ≡ with_bytes H (cond b (with_bytes H l) H).left
   only_left true l = refl
   only_left false l = refl
 
-  only_the_left : (c : Call) → is_saving c ≡ true → advance H c ≡ record H { left = (advance H c).left }
+  histories_alone : (c : Call) → is_begin_or_take c ≡ true → advance H c ≡ with_bytes H (advance H c).left
   unfolding advance
-  only_the_left (opening s) q = absurd (clash q)
-  only_the_left (writing out) q = absurd (clash q)
-  only_the_left (loading h e) q = absurd (clash q)
-  only_the_left (at h a) q = absurd (clash q)
-  only_the_left beginning q = only_left (eqb (call_number H beginning) 0) H.sheet
-  only_the_left (taking out) q = only_left (eqb (call_number H (taking out)) 0) (drop (room 0 H.left out) H.left)
+  histories_alone (opening s) q = absurd (clash q)
+  histories_alone (writing out) q = absurd (clash q)
+  histories_alone (loading h e) q = absurd (clash q)
+  histories_alone (at h a) q = absurd (clash q)
+  histories_alone beginning q = only_left (eqb (call_number H beginning) 0) H.sheet
+  histories_alone (taking out) q = only_left (eqb (call_number H (taking out)) 0) (drop (room 0 H.left out) H.left)
 
-same_histories : (H : Histories) (l : List ℕ) (cs : List Call)
-    → advance_all (record H { left = l }) cs ≡ record (advance_all H (without is_saving cs)) { left = (advance_all (record H { left = l }) cs).left }
+same_histories : (H : Histories) (cs : List Call) → advance_all H cs ≡ with_bytes (advance_all H (without is_begin_or_take cs)) (advance_all H cs).left
 unfolding advance_all
-same_histories = beside is_saving advance advance_all (λ H l. record H { left = l }) (λ H. H.left) (λ H. refl) (λ H c cs. refl) (λ H l. refl) histories_aside (λ H l c q. only_the_left (record H { left = l }) c q)
+same_histories H =
+    beside is_begin_or_take advance advance_all with_bytes (λ H. H.left) (λ H. refl) (λ H c cs. refl) (λ H l. refl) histories_aside
+    (λ H l c q. histories_alone (with_bytes H l) c q) H H.left
 
 -- ---- the parts
 
--- what is left changes by begins and takes alone
-same_left : (H : Histories) (c : Call) → is_saving c ≡ false → (advance H c).left ≡ H.left
-same_left H c q = ap (λ (G : Histories). G.left) (histories_aside H H.left c q)
+-- no other call moves the save
+others : (f : Frame) (c : Call) → is_begin_or_take c ≡ false → (perform f c).frame.save ≡ f.save
+others f c q = ap (λ (d : Done). d.frame.save) (aside f f.save c q)
 
--- the parts with what is left, and the sheet that they are of, after a call
-abbrev Joined : List ℕ → List ℕ → Histories → Type 0
-Joined ps sheet H = ps ++ H.left ≡ sheet
+-- what a call hands out, with what it leaves, is what was left
+abbrev Part_of : Frame → Call → Type 0
+Part_of f c = part_in c (perform f c).reply ++ left_of (perform f c).frame.save ≡ left_of f.save
 
-module _ (H : Histories) (ps sheet : List ℕ) (j : Joined ps sheet H) where
-  abbrev After : Call → Type 0
-  After c = Joined (parts_with ps c (reply_to H c)) (saved_with sheet H c) (advance H c)
+part_refused : (f : Frame) → (number_in (perform f beginning).reply ≡ 0 → ⊥) → Part_of f beginning
+unfolding perform
+part_refused f z = ap left_of (begin_refused f.save f.library z)
 
-  after_begin : After beginning
-  unfolding reply_to advance
-  after_begin = go (eqb (call_number H beginning) 0) refl
-    where
-      go : (b : Bool) → eqb (call_number H beginning) 0 ≡ b → After beginning
-      go true q = rw q refl
-      go false q = rw (q, q) j
+part_taken : (f : Frame) (out : List ℕ) → Part_of f (taking out)
+unfolding perform
+part_taken f out = (parts.part f.save out).joined
 
-  after_take : (out : List ℕ) → After (taking out)
-  unfolding reply_to advance
-  after_take out = go (eqb (call_number H (taking out)) 0) refl
-    where
-      p : Part (with_left H.left) out
-      p = parts.part (with_left H.left) out
+part_other : (f : Frame) (c : Call) → (c ≡ beginning → ⊥) → Part_of f c
+part_other f (opening s) z = ap left_of (others f (opening s) refl)
+part_other f (writing out) z = ap left_of (others f (writing out) refl)
+part_other f (loading h e) z = ap left_of (others f (loading h e) refl)
+part_other f (at h a) z = ap left_of (others f (at h a) refl)
+part_other f beginning z = absurd (z refl)
+part_other f (taking out) z = part_taken f out
 
-      go : (b : Bool) → eqb (call_number H (taking out)) 0 ≡ b → After (taking out)
-      go true q = rw q (append_assoc ps (part_of (with_left H.left) out) (drop (room 0 H.left out) H.left) ∙ ap (λ (xs : List ℕ). ps ++ xs) p.joined ∙ j)
-      go false q = rw (q, append-nil ps) j
+joined_first : (f : Frame) (c : Call) (cs : List Call) → Part_of f c
+    → parts_from (perform f c).frame cs ++ left_of (frame_after (perform f c).frame cs).save ≡ left_of (perform f c).frame.save
+    → parts_from f (c ∷ cs) ++ left_of (frame_after f (c ∷ cs)).save ≡ left_of f.save
+unfolding parts_from frame_after
+joined_first f c cs p j =
+    append_assoc (part_in c (perform f c).reply) (parts_from (perform f c).frame cs) (left_of (frame_after (perform f c).frame cs).save)
+    ∙ ap (λ (s : List ℕ). part_in c (perform f c).reply ++ s) j
+    ∙ p
 
-  after_call : (c : Call) → After c
-  after_call (opening s) = rw (same_left H (opening s) refl) j
-  after_call (writing out) = rw (same_left H (writing out) refl) j
-  after_call (loading h e) = rw (same_left H (loading h e) refl) j
-  after_call (at h a) = rw (same_left H (at h a) refl) j
-  after_call beginning = after_begin
-  after_call (taking out) = after_take out
+joined : {f : Frame} {cs : List Call} → NoneBegun f cs → parts_from f cs ++ left_of (frame_after f cs).save ≡ left_of f.save
+unfolding parts_from frame_after
+joined no_call = refl
+joined {f} (refused_begin {cs = cs} z n) = joined_first f beginning cs (part_refused f z) (joined n)
+joined {f} (other_call {c = c} {cs} z n) = joined_first f c cs (part_other f c z) (joined n)
 
-joined_from : (H : Histories) (ps sheet : List ℕ) (cs : List Call) → Sound H → Joined ps sheet H
-    → parts_from ps (frame_for H) cs ++ (advance_all H cs).left ≡ saved_from sheet H cs
-unfolding parts_from saved_from advance_all
-joined_from H ps sheet [] S j = j
-joined_from H ps sheet (c ∷ cs) S j = rw (follows H c S) (joined_from (advance H c) _ _ cs (sound_advance H c S) (after_call H ps sheet j c))
+-- behind all of a list nothing is joined to it
+nothing_behind : (xs ys : List ℕ) → xs ++ ys ≡ xs → ys ≡ []
+nothing_behind xs ys e = drop_of_length-le ys {i = 0} (omega (arith, length-append xs ys, ap length e))
+
+parts_are : (f : Frame) (cs : List Call) → NoneBegun f cs → Joined f cs (left_of f.save)
+parts_are f cs n =
+    let j = joined n in
+    record {
+      joined = j;
+      whole = λ z. sym (append-nil (parts_from f cs)) ∙ ap (λ (s : List ℕ). parts_from f cs ++ s) (sym z) ∙ j;
+      ended = λ e. nothing_behind (parts_from f cs) (left_of (frame_after f cs).save) (j ∙ sym e);
+    }
+
+left_begun : (H : Histories) → Sound H → number_in (perform (frame_for H) beginning).reply ≡ 0 → left_of (perform (frame_for H) beginning).frame.save ≡ H.sheet
+unfolding perform
+left_begun H S z = ap left_of (begun_save H S z)
+
+begun : (cs ds : List Call) → number_in (begun_after cs).reply ≡ 0 → NoneBegun (begun_after cs).frame ds → Joined (begun_after cs).frame ds (sheet_after cs)
+begun cs ds z n =
+    let e : left_of (begun_after cs).frame.save ≡ sheet_after cs = rw (after_calls cs) (left_begun (advance_all no_histories cs) (sound_all no_histories cs sound_none) (rw (after_calls cs) at z)) in
+    subst (λ (s : List ℕ). Joined (begun_after cs).frame ds s) e (parts_are (begun_after cs).frame ds n)
 
 -- ---- when a save is unfinished
 
@@ -169,36 +185,22 @@ some_left : (s : List ℕ) → (s ≡ [] → ⊥) → 0 < length s
 some_left [] z = absurd (z refl)
 some_left (b ∷ s) z = omega arith
 
-module _ {k : ℕ} where
-  has_16 : {x : ℕ} (w : ℕ) → 0 < k → Step (0 < k) 16 x → (x then w) ≡ 16
-  has_16 w l (yes p) = refl
-  has_16 w l (no q) = absurd (q l)
+some_begin : {k x : ℕ} (w : ℕ) → 0 < k → Step (0 < k) 16 x → (x then w) ≡ 16
+some_begin w l (yes p) = refl
+some_begin w l (no q) = absurd (q l)
 
-  has_17 : {x : ℕ} → k ≡ 0 → Step (k ≡ 0) 17 x → x ≡ 17
-  has_17 e (yes p) = refl
-  has_17 e (no q) = absurd (q e)
-
-  of_17 : {x : ℕ} → x ≡ 17 → Step (k ≡ 0) 17 x → k ≡ 0
-  of_17 e (yes p) = p
-  of_17 e (no q) = absurd (omega arith)
-
-  not_17 : {x : ℕ} → 0 < k → Step (k ≡ 0) 17 x → x ≡ 0
-  not_17 l (yes p) = absurd (omega arith)
-  not_17 l (no q) = refl
-
-begin_some : (l : Library) (s : List ℕ) → begin_refusal (length s) l ≡ 16 → s ≡ [] → ⊥
-begin_some l s e z = not_unfinished l (zero_bytes 834) (rw z at e)
+some_take : {k x : ℕ} → 0 < k → Step (k ≡ 0) 17 x → x ≡ 0
+some_take l (yes p) = absurd (omega arith)
+some_take l (no q) = refl
 
 module _ (f : Frame) where
-  unfinished : Unfinished f
+  unfinished : (number_in (perform f beginning).reply ≡ 16 → left_of f.save ≡ [] → ⊥) × ((left_of f.save ≡ [] → ⊥) → number_in (perform f beginning).reply ≡ 16)
   unfolding perform
-  unfinished =
-      record {
-        begin_some = begin_some f.library f.save.left.items;
-        some_begin = λ z. has_16 _ (some_left f.save.left.items z) (unfinished_step (length f.save.left.items));
-        take_none = λ out e. drop_of_length-le f.save.left.items {i = 0} (omega (arith, of_17 e (finished_step (length f.save.left.items))));
-        none_take = λ out e. has_17 (rw e refl) (finished_step (length f.save.left.items));
-      }
+  unfinished = (λ e z. not_unfinished f.library (zero_bytes 834) (rw z at e), λ z. some_begin _ (some_left f.save.left.items z) (unfinished_step (length f.save.left.items)))
+
+  finished : (out : List ℕ) → (number_in (perform f (taking out)).reply ≡ 17 → left_of f.save ≡ []) × (left_of f.save ≡ [] → number_in (perform f (taking out)).reply ≡ 17)
+  unfolding perform
+  finished out = (λ e. none_left f.save out (λ z. omega arith), λ e. rw e refl)
 
   full : (out : List ℕ) → (left_of (perform f (taking out)).frame.save ≡ [] → ⊥) → written_count (perform f (taking out)).reply ≡ length out
   unfolding perform
@@ -206,25 +208,25 @@ module _ (f : Frame) where
 
   no_places : (left_of f.save ≡ [] → ⊥) → perform f (taking []) ≡ record { reply = wrote 0 0 []; frame = f }
   unfolding perform
-  no_places z = rw (not_17 (some_left f.save.left.items z) (finished_step (length f.save.left.items)), min-zero (length f.save.left.items), over_past 0 f.save.left.items [] (omega arith)) refl
-
--- from a fresh frame
-joined : (cs : List Call) → parts_of cs ++ left_of (after cs).save ≡ saved_in cs
-unfolding Demand3
-joined cs = rw ((demand3 cs).left, fresh_picture) (joined_from no_histories [] [] cs sound_none refl)
+  no_places z =
+      rw (some_take (some_left f.save.left.items z) (finished_step (length f.save.left.items)), min-zero (length f.save.left.items), over_past 0 f.save.left.items [] (omega arith))
+      refl
 
 pub saving : Saving
 saving =
     record {
-      replies = λ f cs. same_replies f f.save cs;
-      heads = λ f cs. ap (λ (g : Frame). g.heads) (same_frame f f.save cs);
-      library = λ f cs. ap (λ (g : Frame). g.library) (same_frame f f.save cs);
-      histories = λ H cs. ap (λ (G : Histories). G.heads) (same_histories H H.left cs);
-      sheet = λ H cs. ap (λ (G : Histories). G.sheet) (same_histories H H.left cs);
-      others = λ f c q. ap (λ (d : Done). d.frame.save) (aside f f.save c q);
-      joined = joined;
-      whole = λ cs z. sym (append-nil (parts_of cs)) ∙ ap (λ (s : List ℕ). parts_of cs ++ s) (sym z) ∙ joined cs;
+      replies = same_replies;
+      heads = λ f cs. ap (λ (g : Frame). g.heads) (same_frame f cs);
+      library = λ f cs. ap (λ (g : Frame). g.library) (same_frame f cs);
+      histories = λ H cs. ap (λ (G : Histories). G.heads) (same_histories H cs);
+      sheet = λ H cs. ap (λ (G : Histories). G.sheet) (same_histories H cs);
+      alone = alone;
+      others = others;
+      left = λ H c q. ap (λ (G : Histories). G.left) (histories_aside H H.left c q);
+      begun = begun;
+      parts = parts_are;
       unfinished = unfinished;
+      finished = finished;
       full = full;
       no_places = no_places;
     }

@@ -57,9 +57,12 @@ upheld H cs S =
       left = rw r.frame;
     }
 
-pub fresh_picture : fresh_frame ≡ frame_for no_histories
+fresh_picture : fresh_frame ≡ frame_for no_histories
 unfolding table
 fresh_picture = rw (no_sheet, head_follows.fresh) refl
+
+pub after_calls : (cs : List Call) → frame_after fresh_frame cs ≡ frame_for (advance_all no_histories cs)
+after_calls cs = rw fresh_picture (followed no_histories cs sound_none).frame
 
 pub demand3 : Demand3
 unfolding Demand3

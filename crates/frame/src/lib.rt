@@ -162,7 +162,8 @@ impl Frame {
         self.save.begin(&self.library)
     }
 
-    // Takes the next bytes of the save, as many as the output has room for, and answers how many.
+    // Takes the next bytes of the save, as many as the output has room for, and answers how many. Places behind them keep their contents.
+    // With its last byte the save ends.
     #[tactic(auto, unfolding(crate::specs::Calls::perform))]
     pub fn take(&mut self, output: &mut [u8]) -> Result<usize, Refusal>
         ensures { with_written result self.new output.new ≡ perform self.old (taking output.old) }

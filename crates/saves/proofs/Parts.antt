@@ -16,7 +16,7 @@ use Rattle.library.specs.Library.{library_of, written_of}
 use Rattle.library.specs.declared.Library.{Library}
 use Rattle.library.proofs.RoundTrip.{rewritten}
 use Rattle.saves.proofs.Zeros.{length_zero_bytes}
-use Rattle.saves.specs.Save.{zero_bytes, left_of, begin_refusal, begun_with, begin_of, take_refusal, take_length, take_of}
+use Rattle.saves.specs.Save.{zero_bytes, left_of, begin_refusal, begun_with, begin_of, take_refusal, take_length, take_of, taken_of}
 use Rattle.saves.specs.Parts.{part_of, Part, TakeLeaves, Parts}
 use Rattle.saves.specs.declared.Save.{Save}
 
@@ -54,16 +54,19 @@ module _ (v : Save) (out : List ℕ) where
   part_is : part_of v out ≡ take (length out) (left_of v)
   part_is = over_written (left_of v) out
 
+  kept : drop (take_length v out) (taken_of v out) ≡ drop (take_length v out) out
+  kept = over_kept (left_of v) out
+
   part : Part v out
   part =
       record {
         joined = rw (part_is, left_taken) (take-append-drop (length out) (left_of v));
         full = full;
-        kept = over_kept (left_of v) out;
+        kept = kept;
       }
 
   -- 17 is answered where nothing is left
-  none_left : (take_refusal v ≡ 0 → ⊥) → left_of v ≡ []
+  pub none_left : (take_refusal v ≡ 0 → ⊥) → left_of v ≡ []
   none_left z =
       ⊎_elim (λ (h : length (left_of v) < 1). drop_of_length-le (left_of v) {i = 0} (omega arith))
       (λ (h : 1 ≤ length (left_of v)). absurd (z (rw (le-ltb (length (left_of v)) 1 h) refl)))

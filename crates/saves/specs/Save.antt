@@ -32,13 +32,9 @@ unfinished_refusal k = cond (ltb 0 k) 16 0
 abbrev pub finished_refusal : ℕ → ℕ
 finished_refusal k = cond (ltb k 1) 17 0
 
--- 16, then the number w of a write
-abbrev pub begin_number : ℕ → ℕ → ℕ
-begin_number k w = unfinished_refusal k then w
-
--- which is 2 where there is no library, and else 0: the output has room for every sheet, the longest of which has 834 bytes
+-- 16, then 2 where there is no library: the number of a write with room for every sheet, the longest of which has 834 bytes
 abbrev pub begin_refusal : ℕ → Library → ℕ
-begin_refusal k l = begin_number k (write_number l (zero_bytes 834))
+begin_refusal k l = unfinished_refusal k then write_number l (zero_bytes 834)
 
 -- ---- begin
 

@@ -13,8 +13,8 @@ use arrayvec::ArrayVec;
 use filter_core::Refusal;
 use library::Library;
 
-// The bytes of its sheet that are left to take; the longest sheet has 834. A part is taken off the front, which moves what is behind it:
-// so what a save holds says all of it, and no save is behind its own end.
+// The bytes of its sheet that are left to take; the longest sheet has 834. A part is taken off the front, which moves what is behind it. So
+// a save is these bytes and nothing else: there is no count of taken bytes that could exceed them.
 #[derive(Clone, Debug, Drop, PartialEq, Eq)]
 pub struct Save {
     pub left: ArrayVec<u8, 834>,
