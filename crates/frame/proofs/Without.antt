@@ -30,7 +30,6 @@ module _
         → Beside (steps s (without kind cs)) (steps (put s (part (step (put s v) c))) cs)
         → Beside (steps (step s c) (without kind cs)) (steps (put (step s c) v) cs)
         → Beside (steps s (without kind (c ∷ cs))) (steps (put s v) (c ∷ cs))
-    unfolding without
     beside_first s v c cs r t = go (kind c) refl
       where
         go : (b : Bool) → kind c ≡ b → Beside (steps s (without kind (c ∷ cs))) (steps (put s v) (c ∷ cs))
@@ -38,7 +37,6 @@ module _
         go false q = rw (q, cons (put s v) c cs, cons s c (without kind cs), others s v c q) t
 
     pub beside : (s : S) (v : V) (cs : List Call) → Beside (steps s (without kind cs)) (steps (put s v) cs)
-    unfolding without
     beside s v [] = rw (nil (put s v), nil s, got s v) refl
     beside s v (c ∷ cs) = beside_first s v c cs (beside s (part (step (put s v) c)) cs) (beside (step s c) v cs)
 
@@ -62,7 +60,7 @@ module _
         → other_replies kind (put f (part (perform (put f v) c).frame)) cs ≡ replies_from f (without kind cs)
         → other_replies kind (put (perform f c).frame v) cs ≡ replies_from (perform f c).frame (without kind cs)
         → other_replies kind (put f v) (c ∷ cs) ≡ replies_from f (without kind (c ∷ cs))
-    unfolding other_replies replies_from without
+    unfolding other_replies replies_from
     replies_first f v c cs r t = go (kind c) refl
       where
         go : (b : Bool) → kind c ≡ b → other_replies kind (put f v) (c ∷ cs) ≡ replies_from f (without kind (c ∷ cs))
@@ -70,6 +68,6 @@ module _
         go false q = rw (q, others f v c q) (ap (λ (rs : List Reply). (perform f c).reply ∷ rs) t)
 
     pub replies_beside : (f : Frame) (v : V) (cs : List Call) → other_replies kind (put f v) cs ≡ replies_from f (without kind cs)
-    unfolding other_replies replies_from without
+    unfolding other_replies replies_from
     replies_beside f v [] = refl
     replies_beside f v (c ∷ cs) = replies_first f v c cs (replies_beside f (part (perform (put f v) c).frame) cs) (replies_beside (perform f c).frame v cs)

@@ -1,12 +1,11 @@
 -- A list of calls without those of a kind.
-use Rattle.std.specs.Prelude.{cond, Bool, List, [], ◌∷◌}
+use Rattle.std.specs.Prelude.{cond, Bool, not, List, [], ◌∷◌, filter}
 use Rattle.frame.specs.Call.{Call, Reply}
 use Rattle.frame.specs.Calls.{perform}
 use Rattle.frame.specs.declared.Frame.{Frame}
 
-unfoldable pub without : (Call → Bool) → List Call → List Call
-without kind [] = []
-without kind (c ∷ cs) = cond (kind c) (without kind cs) (c ∷ without kind cs)
+abbrev pub without : (Call → Bool) → List Call → List Call
+without kind cs = filter (λ c. not (kind c)) cs
 
 -- what the calls reply, but for those of the kind
 unfoldable pub other_replies : (Call → Bool) → Frame → List Call → List Reply

@@ -730,6 +730,16 @@ pub fn letter(k: u64, h: u64) -> String {
 
 pub const LETTERS: u64 = 9;
 
+/// A list of so many letters, a line each: the digits of its number, the lowest first, each a letter of the alphabet.
+fn spell(text: &mut String, list: u64, length: u32, letters: u64, letter: impl Fn(u64) -> String) {
+    let mut rest = list;
+    for _ in 0..length {
+        text.push_str(&letter(rest % letters));
+        text.push('\n');
+        rest /= letters;
+    }
+}
+
 /// Every list of exactly so many letters, twelve to a history: each list has a head of its own on a fresh frame, and what the head holds
 /// and its count are asked for at the end. Shorter lists are the starts of these.
 pub fn short(length: u32) -> impl Iterator<Item = Vec<u8>> {
@@ -742,12 +752,7 @@ pub fn short(length: u32) -> impl Iterator<Item = Vec<u8>> {
     (0..lists).step_by(12).map(move |first| {
         let mut text = format!("{}\n", sheets[(first / 12 % 2) as usize]);
         for (h, list) in (first..lists.min(first + 12)).enumerate() {
-            let mut rest = list;
-            for _ in 0..length {
-                text.push_str(&letter(rest % LETTERS, h as u64));
-                text.push('\n');
-                rest /= LETTERS;
-            }
+            spell(&mut text, list, length, LETTERS, |k| letter(k, h as u64));
             text.push_str(&format!("head {h}\ncount {h}\n"));
         }
         text.into_bytes()
@@ -782,13 +787,8 @@ pub const SAVE_LETTERS: u64 = 6;
 /// Every list of exactly so many of these, each on a fresh frame; at the end what is left is taken, and the library written.
 pub fn saves(length: u32) -> impl Iterator<Item = Vec<u8>> {
     (0..SAVE_LETTERS.pow(length)).map(move |list| {
-        let mut rest = list;
         let mut text = String::new();
-        for _ in 0..length {
-            text.push_str(&save_letter(rest % SAVE_LETTERS));
-            text.push('\n');
-            rest /= SAVE_LETTERS;
-        }
+        spell(&mut text, list, length, SAVE_LETTERS, save_letter);
         text.push_str(&format!("{}\n{}\n", lend("take", 30), lend("write", 30)));
         text.into_bytes()
     })
