@@ -5,7 +5,7 @@ ghost use Rattle.filter_core.specs.Refusal.{number, number_in, step_refusal, fre
 
 use crate::FrequencyApproximation;
 
-// The rows of the refusal table of document 01, and of 02 those that f, h and i add. A row's number is its variant's.
+// The rows of the refusal table of document 01, and of 02 those that b, f, h and i add. A row's number is its variant's.
 #[derive(Clone, Copy, Debug, PartialEq, Eq)]
 pub enum Refusal {
     Head = 1,
@@ -20,6 +20,8 @@ pub enum Refusal {
     Step = 10,
     Frequency = 11,
     Short = 12,
+    Waiting = 13,
+    Samples = 14,
     Series = 15,
     Unfinished = 16,
     Finished = 17,
