@@ -1,0 +1,53 @@
+-- The ring of twelve heads: the head that a turn finds is the nearest of those that wait. Assumes nothing.
+use Prim.Native.Nat.{ℕ, zero, suc, ◌+◌, ◌%◌, ◌<◌, ◌≤◌}
+use mathlib.Core.Path.{◌≡◌, refl}
+use mathlib.Core.Bool.{Bool, true, false}
+use mathlib.Core.List.{map}
+use native.Mathlib.Omega.{arith}
+use borrow.Author.Tests.{clash}
+use Rattle.std.specs.List.{find, range_with_len}
+use Rattle.std.specs.Prelude.{Option, IfSome}
+use Rattle.rota.specs.Ring.{ring_after, first_after, places, Nearest, nobody, somebody}
+
+-- no head for which the test holds stands before place k
+abbrev From : ℕ → (ℕ → Bool) → ℕ → Type 0
+From q test k = (g : ℕ) → g < 12 → test g ≡ true → k ≤ places q g
+
+not_true : (b : Bool) → (b ≡ true → ⊥) → b ≡ false
+not_true true z = absurd (z refl)
+not_true false z = refl
+
+-- the head at place k, and that there is one head at a place
+place_of : (q k : ℕ) → q < 12 → 1 ≤ k → k ≤ 12 → places q ((q + k) % 12) ≡ k
+place_of q k l m n = omega arith
+
+head_at_place : (q k g : ℕ) → q < 12 → g < 12 → places q g ≡ k → g ≡ (q + k) % 12
+head_at_place q k g l m e = omega arith
+
+nearest_from : (q : ℕ) (test : ℕ → Bool) → q < 12 → (k m : ℕ) → 1 ≤ k → k + m ≡ 13 → From q test k
+    → Nearest q test (find test (map (λ i. (q + i) % 12) (range_with_len k m)))
+nearest_from q test l k zero one e from = nobody (λ g d. not_true (test g) (λ t. omega (arith, from g d t)))
+nearest_from q test l k (suc m) one e from = go (test ((q + k) % 12)) refl (λ f. nearest_from q test l (k + 1) m (omega arith) (omega arith) f)
+  where
+    go : (b : Bool) → test ((q + k) % 12) ≡ b → (From q test (k + 1) → Nearest q test (find test (map (λ i. (q + i) % 12) (range_with_len (k + 1) m))))
+        → Nearest q test (find test (map (λ i. (q + i) % 12) (range_with_len k (suc m))))
+    go true t on = rw t (somebody {h = (q + k) % 12} (omega arith) t (λ g d w. omega (arith, place_of q k l one (omega arith), from g d w)))
+    go false t on =
+        rw t
+        (on
+        (λ g d w.
+        let u = from g d w in
+        let z : places q g ≡ k → ⊥ = λ p. clash (rw (head_at_place q k g l d p, t) at w) in
+        omega arith))
+
+pub nearest : (p : ℕ) (test : ℕ → Bool) → Nearest (p % 12) test (first_after p test)
+unfolding ring_after
+nearest p test = nearest_from (p % 12) test (omega arith) 1 12 (omega arith) refl (λ g d t. omega arith)
+
+below : {p : ℕ} {test : ℕ → Bool} {r : Option ℕ} → Nearest p test r → IfSome r (λ h. h < 12)
+below (nobody z) = tt
+below (somebody l t n) = l
+
+-- whatever was served last, the head found is one of the twelve
+pub first_below : (p : ℕ) (test : ℕ → Bool) → IfSome (first_after p test) (λ h. h < 12)
+first_below p test = below (nearest p test)
