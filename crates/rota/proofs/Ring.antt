@@ -1,12 +1,12 @@
 -- The ring of twelve heads: the head that a turn finds is the nearest of those that wait. Assumes nothing.
 use Prim.Native.Nat.{ℕ, zero, suc, ◌+◌, ◌%◌, ◌<◌, ◌≤◌}
-use mathlib.Core.Path.{◌≡◌, refl}
-use mathlib.Core.Bool.{Bool, true, false}
-use mathlib.Core.List.{map}
+use mathlib.Core.Path.{◌≡◌, refl, ap}
+use mathlib.Core.Bool.{Bool, true, false, cond}
+use mathlib.Core.List.{List, [], ◌∷◌, map}
 use native.Mathlib.Omega.{arith}
 use borrow.Author.Tests.{clash}
 use Rattle.std.specs.List.{find, range_with_len}
-use Rattle.std.specs.Prelude.{Option, IfSome}
+use Rattle.std.specs.Prelude.{Option, Some}
 use Rattle.rota.specs.Ring.{ring_after, first_after, places, Nearest, nobody, somebody}
 
 -- no head for which the test holds stands before place k
@@ -44,10 +44,11 @@ pub nearest : (p : ℕ) (test : ℕ → Bool) → Nearest (p % 12) test (first_a
 unfolding ring_after
 nearest p test = nearest_from (p % 12) test (omega arith) 1 12 (omega arith) refl (λ g d t. omega arith)
 
-below : {p : ℕ} {test : ℕ → Bool} {r : Option ℕ} → Nearest p test r → IfSome r (λ h. h < 12)
-below (nobody z) = tt
-below (somebody l t n) = l
+-- two tests that agree on the twelve heads find the same one
+same_find : (f : ℕ → ℕ) (t u : ℕ → Bool) → ((i : ℕ) → t (f i) ≡ u (f i)) → (xs : List ℕ) → find t (map f xs) ≡ find u (map f xs)
+same_find f t u e [] = refl
+same_find f t u e (x ∷ xs) = rw (e x) (ap (λ (r : Option ℕ). cond (u (f x)) (Some (f x)) r) (same_find f t u e xs))
 
--- whatever was served last, the head found is one of the twelve
-pub first_below : (p : ℕ) (test : ℕ → Bool) → IfSome (first_after p test) (λ h. h < 12)
-first_below p test = below (nearest p test)
+pub first_same : (p : ℕ) (t u : ℕ → Bool) → ((h : ℕ) → h < 12 → t h ≡ u h) → first_after p t ≡ first_after p u
+unfolding ring_after
+first_same p t u e = same_find (λ k. (p % 12 + k) % 12) t u (λ i. e ((p % 12 + i) % 12) (omega arith)) (range_with_len 1 12)

@@ -7,6 +7,9 @@ ghost use Rattle.filter_core.specs.Refusal.{number_in};
 ghost use Rattle.rota.specs.Ring.{first_after};
 ghost use Rattle.rota.specs.Call.{tell, turn};
 ghost use Rattle.rota.specs.Rota.{has_some, head_refusal, waiting_refusal, samples_refusal, fresh_rota, waits_in, perform, plainly, granting};
+ghost use Rattle.rota.specs.Follows.{RotaFollows};
+ghost use Rattle.rota.specs.Rows.{RotaByRows};
+ghost use Rattle.rota.specs.Fair.{Fair};
 
 use filter_core::Refusal;
 
@@ -106,3 +109,23 @@ impl Rota {
         Some(Grant { head, samples })
     }
 }
+
+// ---- the theorems
+
+// Each number is answered in its row's case, and in no other.
+#[tactic(auto, using(crate::proofs::Rows::rota_by_rows))]
+pub fn rota_by_rows()
+    ensures { RotaByRows }
+{}
+
+// Each call replies what the calls before it say, and leaves the rota that they and it lead to.
+#[tactic(auto, using(crate::proofs::Follows::rota_follows))]
+pub fn rota_follows()
+    ensures { RotaFollows }
+{}
+
+// Under every list of calls a rota is fair to every head.
+#[tactic(auto, using(crate::proofs::Fairness::fair))]
+pub fn fair()
+    ensures { Fair }
+{}
