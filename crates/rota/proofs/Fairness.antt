@@ -1,19 +1,17 @@
 -- What 02 b promises, gathered from the history that the calls make. Assumes nothing.
 use Prim.Native.Nat.{ℕ, ◌<◌, ◌≤◌}
-use mathlib.Core.Path.{◌≡◌, refl, ap, sym, ◌∙◌}
-use mathlib.Core.Bool.{Bool, true, false, cond}
+use mathlib.Core.Path.{◌≡◌, refl, ap, sym}
 use mathlib.Core.List.{List, [], ◌∷◌, ◌++◌}
 use native.Mathlib.Omega.{arith}
 use borrow.Author.Tests.{ne_eqb}
-use lib.Dec.{eqb, ltb}
-use Rattle.std.specs.Prelude.{Option, None, Some, IfSome, option_map}
+use Rattle.std.specs.Prelude.{Option, None, Some, IfSome}
 use Rattle.std.proofs.lemmas.Option.{none-some}
 use Rattle.rota.specs.Ring.{places, first_after}
 use Rattle.rota.specs.Call.{Call, tell, turn, Reply, number_in, refused}
-use Rattle.rota.specs.Rota.{fresh_rota, left_at, waits_in, with_left, tell_refusal, tell_done, turn_done, perform}
-use Rattle.rota.specs.History.{Event, account, Waits, waits, owed, last_served, grant_for, reply_to, noted, advance, advance_all, replies_to}
+use Rattle.rota.specs.Rota.{waits_in, tell_refusal, tell_done, turn_done, perform}
+use Rattle.rota.specs.History.{Event, Waits, last_served, reply_to, advance, advance_all, replies_to}
 use Rattle.rota.specs.Follows.{rota_for}
-use Rattle.rota.specs.Fair.{replies_from, rota_from, history_from, grant_in, grant_of, turns_in, grants_from, Names, NamedWithin, Due, FairTo, Fair}
+use Rattle.rota.specs.Fair.{replies_from, rota_from, history_from, grant_in, Due, FairTo, Fair}
 use Rattle.rota.specs.declared.Grant.{Grant}
 use Rattle.rota.specs.declared.Rota.{Rota}
 use Rattle.rota.proofs.Follows.{left_is, rota_follows}

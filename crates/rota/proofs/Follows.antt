@@ -4,21 +4,16 @@ use mathlib.Core.Path.{◌≡◌, refl, ap, ◌∙◌}
 use mathlib.Core.Bool.{Bool, true, false, cond}
 use mathlib.Core.List.{List, [], ◌∷◌}
 use native.Mathlib.Omega.{arith}
-use borrow.Author.Tests.{ltb-true, ltb-false, eqb-true, eqb-false, eq-eqb, ne_eqb, lt-ltb, le-ltb}
+use borrow.Author.Tests.{ltb-true, ltb-false, eqb-true, eq-eqb, ne_eqb}
 use lib.Dec.{eqb, ltb, eqb-suc-zero}
-use lib.ListN.{get_or, set}
 use Rattle.std.specs.Prelude.{Option, None, Some, option_map}
-use Rattle.std.specs.List.{find}
 use Rattle.lists.specs.Table.{table}
 use Rattle.lists.proofs.Tables.{get_or_table, table_ext, set_table}
-use Rattle.rota.specs.Ring.{first_after, Nearest, nobody, somebody}
 use Rattle.rota.specs.Call.{Call, tell, turn, told, granted}
 use Rattle.rota.specs.Rota.{fresh_rota, left_at, has_some, waits_in, with_left, tell_refusal, tell_done, share, turn_done, perform}
-use Rattle.rota.specs.History.{Event, told_event, grant_event, Account, granted_more, account, waits, owed, last_served, grant_for, reply_to, told_with, granted_with, advance}
+use Rattle.rota.specs.History.{Event, told_event, grant_event, account, waits, owed, last_served, grant_for, reply_to, told_with, granted_with, advance}
 use Rattle.rota.specs.Follows.{rota_for, RotaFollows}
-use Rattle.rota.specs.declared.Grant.{Grant}
-use Rattle.rota.specs.declared.Rota.{Rota}
-use Rattle.rota.proofs.Ring.{nearest, first_same}
+use Rattle.rota.proofs.Ring.{Nearest, somebody, nearest, first_same}
 
 module _ (l : List Event) where
   -- the picture has left for a head what it is owed

@@ -6,8 +6,13 @@ use mathlib.Core.List.{List, [], ◌∷◌, map}
 use native.Mathlib.Omega.{arith}
 use borrow.Author.Tests.{clash}
 use Rattle.std.specs.List.{find, range_with_len}
-use Rattle.std.specs.Prelude.{Option, Some}
-use Rattle.rota.specs.Ring.{ring_after, first_after, places, Nearest, nobody, somebody}
+use Rattle.std.specs.Prelude.{Option, None, Some}
+use Rattle.rota.specs.Ring.{ring_after, first_after, places}
+
+-- What `first_after` answers, said by the places: a head for which the test holds and of these the nearest, or none where it holds for no head.
+pub data Nearest (p : ℕ) (test : ℕ → Bool) : Option ℕ → Type 0 where
+  nobody : ((g : ℕ) → g < 12 → test g ≡ false) → Nearest p test None
+  somebody : {h : ℕ} → h < 12 → test h ≡ true → ((g : ℕ) → g < 12 → test g ≡ true → places p h ≤ places p g) → Nearest p test (Some h)
 
 -- no head for which the test holds stands before place k
 abbrev From : ℕ → (ℕ → Bool) → ℕ → Type 0

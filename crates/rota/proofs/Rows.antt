@@ -22,6 +22,7 @@ module _ {l : List Event} {h n : ℕ} where
   samples_case (no_samples z) = z
 
 pub rota_by_rows : RotaByRows
+unfolding RotaByRows
 rota_by_rows l (tell h n) =
     exactly
     (first_then (λ e. omega arith) (step_if 1 (ltb 11 h) (λ q. no_head (ltb-true 11 h q)) (λ q p. omega (arith, ltb-false 11 h q, head_case p)))

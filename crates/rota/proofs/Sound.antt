@@ -1,5 +1,5 @@
 -- What holds of all histories that calls make: no head is granted more than it was told, and only the twelve heads occur. Assumes nothing.
-use Prim.Native.Nat.{ℕ, zero, suc, ◌<◌, ◌≤◌, ◌+◌, ◌%◌}
+use Prim.Native.Nat.{ℕ, zero, suc, ◌<◌, ◌≤◌, ◌%◌}
 use mathlib.Core.Path.{◌≡◌, refl, sym, ◌∙◌}
 use mathlib.Core.Bool.{Bool, true, false, cond}
 use mathlib.Core.List.{List, [], ◌∷◌}
@@ -9,13 +9,13 @@ use lib.Dec.{eqb, ltb}
 use Rattle.std.specs.Prelude.{Option, None, Some, option_map}
 use Rattle.filter_core.specs.Rows.{◌then◌}
 use Rattle.filter_core.proofs.Rows.{then_zero}
-use Rattle.rota.specs.Ring.{first_after, places, Nearest, nobody, somebody}
+use Rattle.rota.specs.Ring.{first_after}
 use Rattle.rota.specs.Call.{Call, tell, turn}
 use Rattle.rota.specs.Rota.{head_refusal, waiting_refusal, samples_refusal, tell_refusal, share}
 use Rattle.rota.specs.History.{Event, told_event, grant_event, Account, granted_more, account, Waits, waits, owed, last_served, grant_for, told_with, granted_with, advance, advance_all}
 use Rattle.rota.specs.Fair.{Due}
 use Rattle.rota.specs.declared.Grant.{Grant}
-use Rattle.rota.proofs.Ring.{nearest}
+use Rattle.rota.proofs.Ring.{Nearest, nobody, somebody, nearest}
 
 pub record Sound (l : List Event) : Type 0 where
   pub most : (h : ℕ) → (account h l).granted ≤ (account h l).told

@@ -7,15 +7,15 @@ use mathlib.Core.List.{List, [], ◌∷◌}
 use native.Mathlib.Omega.{arith}
 use borrow.Author.Tests.{eqb-true, eqb-false, ne_eqb, lt-ltb, clash}
 use lib.Dec.{eqb}
-use lib.ListN.{length, get_or}
+use lib.ListN.{length}
 use Rattle.std.specs.Prelude.{Option, None, Some}
 use Rattle.std.proofs.lemmas.Option.{none-some}
 use Rattle.rota.specs.Ring.{places}
 use Rattle.rota.specs.Call.{Call, tell, turn}
 use Rattle.rota.specs.Rota.{tell_refusal, share, perform}
-use Rattle.rota.specs.History.{Event, told_event, grant_event, account, Waits, waits, owed, last_served, grant_for, told_with, granted_with, advance}
+use Rattle.rota.specs.History.{Event, grant_event, account, Waits, waits, owed, last_served, grant_for, told_with, granted_with, advance}
 use Rattle.rota.specs.Follows.{rota_for}
-use Rattle.rota.specs.Fair.{turns_in, grants_from, Names, NamedWithin, Due}
+use Rattle.rota.specs.Fair.{turns_in, grants_from, Names, NamedWithin}
 use Rattle.rota.specs.declared.Grant.{Grant}
 use Rattle.rota.specs.declared.Rota.{Rota}
 use Rattle.rota.proofs.Follows.{rota_follows}

@@ -1,5 +1,5 @@
 -- The ring of the twelve heads (02 b), in which head 0 comes after head 11.
-use Rattle.std.specs.Prelude.{ℕ, Bool, true, false, ◌+◌, ◌-◌, ◌%◌, ◌<◌, ◌≤◌, ◌≡◌, List, map, Option, None, Some}
+use Rattle.std.specs.Prelude.{ℕ, Bool, ◌+◌, ◌-◌, ◌%◌, List, map, Option}
 use Rattle.std.specs.List.{find, range_with_len}
 
 -- the heads in ring order after head p, of which p is the last itself. A rota made by hand may have any number for p
@@ -13,8 +13,3 @@ first_after p test = find test (ring_after p)
 -- how many places behind head p head h stands: 1 where it is the next, 12 where it is p
 abbrev pub places : ℕ → ℕ → ℕ
 places p h = (11 + h - p) % 12 + 1
-
--- what `first_after` answers, said by the places: a head for which the test holds and of these the nearest, or none where it holds for no head
-pub data Nearest (p : ℕ) (test : ℕ → Bool) : Option ℕ → Type 0 where
-  nobody : ((g : ℕ) → g < 12 → test g ≡ false) → Nearest p test None
-  somebody : {h : ℕ} → h < 12 → test h ≡ true → ((g : ℕ) → g < 12 → test g ≡ true → places p h ≤ places p g) → Nearest p test (Some h)

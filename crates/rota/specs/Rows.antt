@@ -18,5 +18,5 @@ numbers_of (tell h n) = 1 ∷ 13 ∷ 14 ∷ []
 numbers_of turn = []
 
 -- a call's number is the first of these whose case holds, and no other is
-abbrev pub RotaByRows : Type 0
+unfoldable pub RotaByRows : Type 0
 RotaByRows = (l : List Event) (c : Call) → Exactly (RotaCase l c) (numbers_of c) (number_in (reply_to l c))
