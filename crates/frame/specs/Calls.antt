@@ -33,10 +33,6 @@ with_save f v = record f { save = v }
 abbrev pub fresh_frame : Frame
 fresh_frame = record { heads = replicate 12 empty_head; library = library.none; save = no_save }
 
--- a head above 11 gets the number 1
-abbrev pub head_number : ℕ → ℕ
-head_number h = cond (ltb 11 h) 1 0
-
 -- ---- each call: what a caller sees, and the frame that the next call gets
 
 pub record Done : Type 0 where

@@ -4,8 +4,9 @@
 ghost use Rattle.std.specs.Prelude.{◌≡◌, IfOk};
 ghost use Rattle.filter_core.specs.Refusal.{number_in};
 ghost use Rattle.heads.specs.Act.{run, run_two, rest, mark, back, drop, count};
+ghost use Rattle.rota.specs.Rota.{head_refusal};
 ghost use Rattle.frame.specs.Call.{opening, writing, loading, at, beginning, taking};
-ghost use Rattle.frame.specs.Calls.{head_at, fresh_frame, head_number, perform, plainly, acting, with_output, with_outputs, with_mark, with_count, with_written};
+ghost use Rattle.frame.specs.Calls.{head_at, fresh_frame, perform, plainly, acting, with_output, with_outputs, with_mark, with_count, with_written};
 ghost use Rattle.frame.specs.Refused.{RefusedLeaves};
 ghost use Rattle.frame.specs.Rows.{NumbersByRows};
 ghost use Rattle.frame.specs.Demand.{Demand3};
@@ -15,6 +16,7 @@ ghost use Rattle.frame.specs.Saves.{Saving};
 use filter_core::Refusal;
 use heads::{Head, Snapshot};
 use library::Library;
+use rota::check_head;
 use runs::RunForm;
 use saves::Save;
 use std::array;
@@ -24,17 +26,6 @@ pub struct Frame {
     pub heads: [Head; 12],
     pub library: Library,
     pub save: Save,
-}
-
-// There are twelve heads.
-fn check_head(head: usize) -> Result<(), Refusal>
-    ensures { number_in result ≡ head_number head }
-{
-    if head < 12 {
-        Ok(())
-    } else {
-        Err(Refusal::Head)
-    }
 }
 
 impl Frame {
@@ -173,7 +164,7 @@ impl Frame {
 
     // A head as it stands.
     pub fn show(&self, head: usize) -> Result<&Head, Refusal>
-        ensures refusal { number_in result ≡ head_number head }
+        ensures refusal { number_in result ≡ head_refusal head }
         ensures head { IfOk result (λ shown. shown.now ≡ head_at self.now head) }
     {
         check_head(head)?;
