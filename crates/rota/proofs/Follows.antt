@@ -9,9 +9,9 @@ use lib.Dec.{eqb, ltb, eqb-suc-zero}
 use Rattle.std.specs.Prelude.{Option, None, Some, option_map}
 use Rattle.lists.specs.Table.{table}
 use Rattle.lists.proofs.Tables.{get_or_table, table_ext, set_table}
-use Rattle.rota.specs.Call.{Call, tell, turn, told, granted}
+use Rattle.rota.specs.Call.{Call, tell, turn, told, granted, refused}
 use Rattle.rota.specs.Rota.{fresh_rota, left_at, has_some, waits_in, with_left, tell_refusal, tell_done, share, turn_done, perform}
-use Rattle.rota.specs.History.{Event, told_event, grant_event, account, waits, owed, last_served, grant_for, reply_to, told_with, granted_with, advance}
+use Rattle.rota.specs.History.{Event, told_event, grant_event, account, waits, owed, last_served, grant_for, reply_to, call_number, told_with, granted_with, advance}
 use Rattle.rota.specs.Follows.{rota_for, RotaFollows}
 use Rattle.rota.proofs.Ring.{Nearest, somebody, nearest, first_same}
 
@@ -87,5 +87,13 @@ unfolding perform
 call_is l (tell h n) = rw (same_refusal l h n) (told_done l h n (tell_refusal h (waits l h) n))
 call_is l turn = rw (first_same (last_served l) (waits_in (rota_for l)) (waits l) (waits_is l)) (granted_done l _ (nearest (last_served l) (waits l)))
 
+told_nothing : (l : List Event) (h n m : ℕ) → (m ≡ 0 → ⊥) → told_with l h n m ≡ l
+told_nothing l h n zero z = absurd (z refl)
+told_nothing l h n (suc m) z = refl
+
+refused_is : (l : List Event) (c : Call) → (call_number l c ≡ 0 → ⊥) → (reply_to l c ≡ refused (call_number l c) c) × (advance l c ≡ l)
+refused_is l (tell h n) z = (refl, told_nothing l h n _ z)
+refused_is l turn z = absurd (z refl)
+
 pub rota_follows : RotaFollows
-rota_follows = record { fresh = fresh_is; call = call_is }
+rota_follows = record { fresh = fresh_is; call = call_is; refused = refused_is }

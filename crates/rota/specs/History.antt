@@ -1,7 +1,7 @@
 -- What 02 b says of a rota, read from its calls and their replies alone. Nothing here is read from what a rota holds.
 use Rattle.std.specs.Prelude.{ℕ, zero, suc, Bool, ◌+◌, ◌-◌, ◌<◌, cond, List, [], ◌∷◌, eqb, ltb, Option, None, Some, option_map}
 use Rattle.rota.specs.Ring.{first_after}
-use Rattle.rota.specs.Call.{Call, tell, turn, Reply, told, granted}
+use Rattle.rota.specs.Call.{Call, tell, turn, Reply, told, granted, number_in}
 use Rattle.rota.specs.Rota.{tell_refusal, share}
 use Rattle.rota.specs.declared.Grant.{Grant}
 
@@ -50,6 +50,10 @@ grant_for l h = record { head = h; samples = share (owed l h) }
 abbrev pub reply_to : List Event → Call → Reply
 reply_to l (tell h n) = told (tell_refusal h (waits l h) n)
 reply_to l turn = granted (option_map (grant_for l) (first_after (last_served l) (waits l)))
+
+-- its number, in the table's order
+abbrev pub call_number : List Event → Call → ℕ
+call_number l c = number_in (reply_to l c)
 
 -- ---- what a call with its reply adds: an accepted telling, or a grant. A refused call adds nothing, nor a turn that grants nothing
 

@@ -1,8 +1,8 @@
 -- The refusals of 02 b, row by row: the case of each number as a statement about the history and the call's arguments.
 use Rattle.std.specs.Prelude.{ℕ, ◌≤◌, ◌≡◌, List, [], ◌∷◌}
 use Rattle.filter_core.specs.Rows.{Exactly}
-use Rattle.rota.specs.Call.{Call, tell, turn, number_in}
-use Rattle.rota.specs.History.{Event, Waits, reply_to}
+use Rattle.rota.specs.Call.{Call, tell, turn}
+use Rattle.rota.specs.History.{Event, Waits, call_number}
 
 pub data RotaCase (l : List Event) : Call → ℕ → Type 0 where
   -- 1: there are twelve heads
@@ -19,4 +19,4 @@ numbers_of turn = []
 
 -- a call's number is the first of these whose case holds, and no other is
 unfoldable pub RotaByRows : Type 0
-RotaByRows = (l : List Event) (c : Call) → Exactly (RotaCase l c) (numbers_of c) (number_in (reply_to l c))
+RotaByRows = (l : List Event) (c : Call) → Exactly (RotaCase l c) (numbers_of c) (call_number l c)
