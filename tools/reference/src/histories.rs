@@ -1158,7 +1158,7 @@ pub fn sample(seed: u64) -> Vec<u8> {
          tell 11 257\ntell 0 1\n\
          turn\nrun 0 plain:low 3f800000 00000000\n\
          turn\n\
-         tell 2 5\nload 4 0\nmark 11\nback 11 0\nrest 2\nbegin\ntake ee\n\
+         tell 2 5\nload 4 0\nrun 4 plain:low 3f800000 00000000\nmark 11\nback 11 0\ndrop 11 0\nrest 2\nbegin\ntake ee\n\
          turn\n\
          open 00\nopen 0100010000003f0000000000000000\ntake eeeeeeeeeeeeeeeeeeeeeeeeeeee\n\
          tell 0 512\n\
