@@ -2,7 +2,9 @@ pub mod Refused
 pub mod Sound
 pub mod Picture
 pub mod Upholds
+pub mod Apart
 pub mod Rows
 pub mod Counts
 pub mod Without
 pub mod Saves
+pub mod Feeding

@@ -6,13 +6,12 @@ use mathlib.Core.List.{List, [], ◌∷◌, ◌++◌, append_assoc, append-nil}
 use native.Mathlib.Nat.{min-zero}
 use native.Mathlib.Omega.{arith}
 use borrow.Author.Tests.{clash}
-use lib.Dec.{eqb, ltb, leb}
+use lib.Dec.{eqb, ltb}
 use lib.ListN.{length, drop, drop_of_length-le, length-append}
 use Rattle.lists.specs.Over.{room}
 use Rattle.lists.proofs.Over.{over_past}
 use Rattle.filter_core.specs.Rows.{◌then◌}
 use Rattle.filter_core.proofs.Rows.{Step, yes, no}
-use Rattle.sheets.specs.Sheet.{check_of}
 use Rattle.library.specs.Library.{count, write_number}
 use Rattle.library.specs.declared.Library.{Library}
 use Rattle.saves.specs.declared.Save.{Save}
@@ -28,31 +27,21 @@ use Rattle.frame.specs.Saves.{is_begin_or_take, written_count, part_in, parts_fr
 use Rattle.frame.proofs.Sound.{Sound, sound_all, sound_none}
 use Rattle.frame.proofs.Picture.{cond_out, begun_save, frame_for}
 use Rattle.frame.proofs.Upholds.{after_calls}
+use Rattle.frame.proofs.Apart.{beside_save, beside_left}
 use Rattle.frame.proofs.Without.{beside, frame_beside, replies_beside}
 use Rattle.frame.specs.declared.Frame.{Frame}
 
 -- ---- beside another save, the other calls do the same
 
-abbrev done_with_save : Save → Done → Done
-done_with_save v d = record { reply = d.reply; frame = with_save d.frame v }
-
-module _ (f : Frame) (v : Save) where
-  abbrev Aside : Call → Type 0
-  Aside c = perform (with_save f v) c ≡ done_with_save v (perform f c)
-
-  either_aside : (b : Bool) (d d' e e' : Done) → d' ≡ done_with_save v d → e' ≡ done_with_save v e → cond b d' e' ≡ done_with_save v (cond b d e)
-  either_aside true d d' e e' p q = p
-  either_aside false d d' e e' p q = q
-
-  aside : (c : Call) → is_begin_or_take c ≡ false → Aside c
-  unfolding perform
-  aside (opening s) q = either_aside (eqb (check_of s) 0) _ _ _ _ refl refl
-  aside (writing out) q = refl
-  aside (loading h e) q = either_aside (ltb 11 h) _ _ _ _ refl (either_aside (leb (count f.library) e) _ _ _ _ refl refl)
-  aside (at h a) q = either_aside (ltb 11 h) _ _ _ _ refl refl
-  aside beginning q = absurd (clash (sym q))
-  aside (taking out) q = absurd (clash (sym q))
-  aside (at_rota c) q = refl
+aside : (f : Frame) (v : Save) (c : Call) → is_begin_or_take c ≡ false → perform (with_save f v) c ≡ record { reply = (perform f c).reply; frame = with_save (perform f c).frame v }
+unfolding perform
+aside f v (opening s) q = beside_save f v (opening s) refl
+aside f v (writing out) q = beside_save f v (writing out) refl
+aside f v (loading h e) q = beside_save f v (loading h e) refl
+aside f v (at h a) q = beside_save f v (at h a) refl
+aside f v beginning q = absurd (clash (sym q))
+aside f v (taking out) q = absurd (clash (sym q))
+aside f v (at_rota c) q = refl
 
 -- ---- a list without its begins and takes
 
@@ -82,10 +71,10 @@ with_bytes H l = record H { left = l }
 module _ (H : Histories) where
   histories_aside : (l : List ℕ) (c : Call) → is_begin_or_take c ≡ false → advance (with_bytes H l) c ≡ with_bytes (advance H c) l
   unfolding advance call_number
-  histories_aside l (opening s) q = cond_out (λ G. with_bytes G l) (eqb (call_number H (opening s)) 0) (grown H (opening s)) H
-  histories_aside l (writing out) q = cond_out (λ G. with_bytes G l) (eqb (call_number H (writing out)) 0) (grown H (writing out)) H
-  histories_aside l (loading h e) q = cond_out (λ G. with_bytes G l) (eqb (call_number H (loading h e)) 0) (grown H (loading h e)) H
-  histories_aside l (at h a) q = cond_out (λ G. with_bytes G l) (eqb (call_number H (at h a)) 0) (grown H (at h a)) H
+  histories_aside l (opening s) q = beside_left H l (opening s) refl
+  histories_aside l (writing out) q = beside_left H l (writing out) refl
+  histories_aside l (loading h e) q = beside_left H l (loading h e) refl
+  histories_aside l (at h a) q = beside_left H l (at h a) refl
   histories_aside l beginning q = absurd (clash (sym q))
   histories_aside l (taking out) q = absurd (clash (sym q))
   histories_aside l (at_rota c) q = cond_out (λ G. with_bytes G l) (eqb (call_number H (at_rota c)) 0) (grown H (at_rota c)) H

@@ -7,3 +7,4 @@ pub mod Demand
 pub mod Counts
 pub mod Without
 pub mod Saves
+pub mod Feeding

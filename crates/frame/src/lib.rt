@@ -13,6 +13,7 @@ ghost use Rattle.frame.specs.Rows.{NumbersByRows};
 ghost use Rattle.frame.specs.Demand.{Demand3};
 ghost use Rattle.frame.specs.Counts.{Counts};
 ghost use Rattle.frame.specs.Saves.{Saving};
+ghost use Rattle.frame.specs.Feeding.{Feeding};
 
 use filter_core::Refusal;
 use heads::{Head, Snapshot};
@@ -219,4 +220,10 @@ pub fn counts_fit()
 #[tactic(auto, using(crate::proofs::Saves::saving))]
 pub fn opening_while_saving()
     ensures { Saving }
+{}
+
+// The rota is fair to every head, whatever is called between its own calls, and leaves heads, marks, library and save as they are.
+#[tactic(auto, using(crate::proofs::Feeding::feeding))]
+pub fn one_worker_feeds_all()
+    ensures { Feeding }
 {}

@@ -83,7 +83,7 @@ module _ (l : List Event) where
   due (idle z) = tt
   due (grants d u) = u
 
-  fair_to : Sound l → FairTo (rota_for l) l
+  pub fair_to : Sound l → FairTo (rota_for l) l
   fair_to S =
       record {
         none = rw (rota_follows.call l turn) (nothing (turned l S));

@@ -1,0 +1,176 @@
+-- The rota over every list of the frame's calls. Assumes nothing.
+use mathlib.Core.Path.{◌≡◌, refl, sym, ap, ◌∙◌}
+use mathlib.Core.Bool.{Bool, true, false, cond}
+use mathlib.Core.List.{List, [], ◌∷◌}
+use borrow.Author.Tests.{clash, eqb-false}
+use lib.Dec.{eqb, ltb, leb}
+use Rattle.sheets.specs.Sheet.{check_of}
+use Rattle.library.specs.Library.{count}
+use Rattle.rota.specs.Call as rota
+use Rattle.rota.specs.History.{Event, call_number as rota_number, advance as noted, advance_all as rota_history}
+use Rattle.rota.specs.Rota as rota_step
+use Rattle.rota.specs.Fair.{replies_from as rota_replies_from, rota_from, FairTo}
+use Rattle.rota.specs.declared.Rota.{Rota}
+use Rattle.rota.proofs.Follows.{rota_follows}
+use Rattle.rota.proofs.Sound.{sound_none, sound_all}
+use Rattle.rota.proofs.Fairness.{fair_to}
+use Rattle.frame.specs.Call.{Call, opening, writing, loading, at, beginning, taking, at_rota}
+use Rattle.frame.specs.Calls.{fresh_frame, with_rota, Done, perform}
+use Rattle.frame.specs.History.{Histories, no_histories, call_number, grown, advance, advance_all}
+use Rattle.frame.specs.Demand.{replies_from, frame_after}
+use Rattle.frame.specs.Without.{without, other_replies}
+use Rattle.frame.specs.Feeding.{is_tell_or_turn, rota_call, rota_calls, rota_reply, rota_replies, Feeding}
+use Rattle.frame.proofs.Picture.{cond_out}
+use Rattle.frame.proofs.Upholds.{after_calls}
+use Rattle.frame.proofs.Apart.{beside_rota, beside_events}
+use Rattle.frame.proofs.Without.{beside, frame_beside, replies_beside}
+use Rattle.frame.specs.declared.Frame.{Frame}
+
+-- ---- beside another rota, the other calls do the same
+
+aside : (f : Frame) (r : Rota) (c : Call) → is_tell_or_turn c ≡ false → perform (with_rota f r) c ≡ record { reply = (perform f c).reply; frame = with_rota (perform f c).frame r }
+unfolding perform
+aside f r (opening s) q = beside_rota f r (opening s) refl
+aside f r (writing out) q = beside_rota f r (writing out) refl
+aside f r (loading h e) q = beside_rota f r (loading h e) refl
+aside f r (at h a) q = beside_rota f r (at h a) refl
+aside f r beginning q = refl
+aside f r (taking out) q = refl
+aside f r (at_rota c) q = absurd (clash (sym q))
+
+alone : (f : Frame) (c : Call) → is_tell_or_turn c ≡ true → (perform f c).frame ≡ with_rota f (perform f c).frame.rota
+unfolding perform
+alone f (opening s) q = absurd (clash q)
+alone f (writing out) q = absurd (clash q)
+alone f (loading h e) q = absurd (clash q)
+alone f (at h a) q = absurd (clash q)
+alone f beginning q = absurd (clash q)
+alone f (taking out) q = absurd (clash q)
+alone f (at_rota c) q = refl
+
+others : (f : Frame) (c : Call) → is_tell_or_turn c ≡ false → (perform f c).frame.rota ≡ f.rota
+others f c q = ap (λ (d : Done). d.frame.rota) (aside f f.rota c q)
+
+same_frame : (f : Frame) (cs : List Call) → frame_after f cs ≡ with_rota (frame_after f (without is_tell_or_turn cs)) (frame_after f cs).rota
+same_frame f = frame_beside is_tell_or_turn with_rota (λ f. f.rota) (λ f r. refl) aside (λ f r c q. alone (with_rota f r) c q) f f.rota
+
+same_replies : (f : Frame) (cs : List Call) → other_replies is_tell_or_turn f cs ≡ replies_from f (without is_tell_or_turn cs)
+same_replies f = replies_beside is_tell_or_turn with_rota (λ f. f.rota) (λ f r. refl) aside (λ f r c q. alone (with_rota f r) c q) f f.rota
+
+-- ---- the same of the histories
+
+abbrev with_events : Histories → List Event → Histories
+with_events H l = record H { rota = l }
+
+module _ (H : Histories) where
+  histories_aside : (l : List Event) (c : Call) → is_tell_or_turn c ≡ false → advance (with_events H l) c ≡ with_events (advance H c) l
+  unfolding advance call_number
+  histories_aside l (opening s) q = beside_events H l (opening s) refl
+  histories_aside l (writing out) q = beside_events H l (writing out) refl
+  histories_aside l (loading h e) q = beside_events H l (loading h e) refl
+  histories_aside l (at h a) q = beside_events H l (at h a) refl
+  histories_aside l beginning q = cond_out (λ G. with_events G l) (eqb (call_number H beginning) 0) (grown H beginning) H
+  histories_aside l (taking out) q = cond_out (λ G. with_events G l) (eqb (call_number H (taking out)) 0) (grown H (taking out)) H
+  histories_aside l (at_rota c) q = absurd (clash (sym q))
+
+  -- a call of the rota adds to the rota's history what the rota says
+  own_call : (c : rota.Call) → advance H (at_rota c) ≡ with_events H (noted H.rota c)
+  unfolding advance call_number
+  own_call c = go (eqb (rota_number H.rota c) 0) refl
+    where
+      go : (b : Bool) → eqb (rota_number H.rota c) 0 ≡ b → cond b (with_events H (noted H.rota c)) H ≡ with_events H (noted H.rota c)
+      go true q = refl
+      go false q = ap (with_events H) (sym (rota_follows.refused H.rota c (eqb-false _ _ q)).1)
+
+  histories_alone : (c : Call) → is_tell_or_turn c ≡ true → advance H c ≡ with_events H (advance H c).rota
+  histories_alone (opening s) q = absurd (clash q)
+  histories_alone (writing out) q = absurd (clash q)
+  histories_alone (loading h e) q = absurd (clash q)
+  histories_alone (at h a) q = absurd (clash q)
+  histories_alone beginning q = absurd (clash q)
+  histories_alone (taking out) q = absurd (clash q)
+  histories_alone (at_rota c) q = rw (own_call c) refl
+
+same_histories : (H : Histories) (cs : List Call) → advance_all H cs ≡ with_events (advance_all H (without is_tell_or_turn cs)) (advance_all H cs).rota
+unfolding advance_all
+same_histories H =
+    beside is_tell_or_turn advance advance_all with_events (λ H. H.rota) (λ H. refl) (λ H c cs. refl) (λ H l. refl) histories_aside
+    (λ H l c q. histories_alone (with_events H l) c q) H H.rota
+
+-- ---- the rota's own calls
+
+-- a call is the rota's, or is none of its calls and replies nothing of it
+data Kind (f : Frame) : Call → Type 0 where
+  own : (c : rota.Call) → Kind f (at_rota c)
+  other : {c : Call} → is_tell_or_turn c ≡ false → rota_call c ≡ [] → rota_reply (perform f c).reply ≡ [] → Kind f c
+
+either : (b : Bool) (d e : Done) → rota_reply d.reply ≡ [] → rota_reply e.reply ≡ [] → rota_reply (cond b d e).reply ≡ []
+either true d e p q = p
+either false d e p q = q
+
+kind_of : (f : Frame) (c : Call) → Kind f c
+unfolding perform
+kind_of f (opening s) = other refl refl (either (eqb (check_of s) 0) _ _ refl refl)
+kind_of f (writing out) = other refl refl refl
+kind_of f (loading h e) = other refl refl (either (ltb 11 h) _ _ refl (either (leb (count f.library) e) _ _ refl refl))
+kind_of f (at h a) = other refl refl (either (ltb 11 h) _ _ refl refl)
+kind_of f beginning = other refl refl refl
+kind_of f (taking out) = other refl refl refl
+kind_of f (at_rota c) = own c
+
+module _ (f : Frame) (cs : List Call) where
+  rota_first : (c : Call) → Kind f c → (frame_after (perform f c).frame cs).rota ≡ rota_from (perform f c).frame.rota (rota_calls cs)
+      → (frame_after f (c ∷ cs)).rota ≡ rota_from f.rota (rota_calls (c ∷ cs))
+  unfolding frame_after rota_from rota_calls perform
+  rota_first _ (own c) e = e
+  rota_first c (other q n m) e = rw n (rw (others f c q) at e)
+
+  answers_first : (c : Call) → Kind f c
+      → rota_replies (replies_from (perform f c).frame cs) ≡ rota_replies_from (perform f c).frame.rota (rota_calls cs)
+      → rota_replies (replies_from f (c ∷ cs)) ≡ rota_replies_from f.rota (rota_calls (c ∷ cs))
+  unfolding replies_from rota_replies rota_replies_from rota_calls perform
+  answers_first _ (own c) e = ap (λ (rs : List rota.Reply). (rota_step.perform f.rota c).reply ∷ rs) e
+  answers_first c (other q n m) e = rw (n, m) (rw (others f c q) at e)
+
+own_rota : (f : Frame) (cs : List Call) → (frame_after f cs).rota ≡ rota_from f.rota (rota_calls cs)
+unfolding frame_after rota_from rota_calls
+own_rota f [] = refl
+own_rota f (c ∷ cs) = rota_first f cs c (kind_of f c) (own_rota (perform f c).frame cs)
+
+own_answers : (f : Frame) (cs : List Call) → rota_replies (replies_from f cs) ≡ rota_replies_from f.rota (rota_calls cs)
+unfolding replies_from rota_replies rota_replies_from rota_calls
+own_answers f [] = refl
+own_answers f (c ∷ cs) = answers_first f cs c (kind_of f c) (own_answers (perform f c).frame cs)
+
+own_first : (f : Frame) (H : Histories) (c : Call) (cs : List Call) → Kind f c
+    → (advance_all (advance H c) cs).rota ≡ rota_history (advance H c).rota (rota_calls cs)
+    → (advance_all H (c ∷ cs)).rota ≡ rota_history H.rota (rota_calls (c ∷ cs))
+unfolding advance_all rota_history rota_calls
+own_first f H _ cs (own c) e = e ∙ ap (λ (G : Histories). rota_history G.rota (rota_calls cs)) (own_call H c)
+own_first f H c cs (other q n m) e = rw n (e ∙ ap (λ (G : Histories). rota_history G.rota (rota_calls cs)) (histories_aside H H.rota c q))
+
+own_history : (H : Histories) (cs : List Call) → (advance_all H cs).rota ≡ rota_history H.rota (rota_calls cs)
+unfolding advance_all rota_history rota_calls
+own_history H [] = refl
+own_history H (c ∷ cs) = own_first fresh_frame H c cs (kind_of fresh_frame c) (own_history (advance H c) cs)
+
+fair_after : (cs : List Call) → FairTo (frame_after fresh_frame cs).rota (advance_all no_histories cs).rota
+fair_after cs = rw (after_calls cs, own_history no_histories cs) (fair_to (rota_history [] (rota_calls cs)) (sound_all [] (rota_calls cs) sound_none))
+
+pub feeding : Feeding
+feeding =
+    record {
+      replies = same_replies;
+      heads = λ f cs. ap (λ (g : Frame). g.heads) (same_frame f cs);
+      library = λ f cs. ap (λ (g : Frame). g.library) (same_frame f cs);
+      save = λ f cs. ap (λ (g : Frame). g.save) (same_frame f cs);
+      histories = λ H cs. ap (λ (G : Histories). G.heads) (same_histories H cs);
+      sheet = λ H cs. ap (λ (G : Histories). G.sheet) (same_histories H cs);
+      left = λ H cs. ap (λ (G : Histories). G.left) (same_histories H cs);
+      alone = alone;
+      others = others;
+      rota = own_rota;
+      answers = own_answers;
+      own = own_history;
+      fair = fair_after;
+    }
