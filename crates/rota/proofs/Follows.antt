@@ -6,14 +6,14 @@ use mathlib.Core.List.{List, [], ◌∷◌}
 use native.Mathlib.Omega.{arith}
 use borrow.Author.Tests.{ltb-true, ltb-false, eqb-true, eq-eqb, ne_eqb}
 use lib.Dec.{eqb, ltb, eqb-suc-zero}
-use Rattle.std.specs.Prelude.{Option, None, Some, option_map}
+use Rattle.std.specs.Prelude.{Option, None, Some, IfSome, option_map}
 use Rattle.lists.specs.Table.{table}
 use Rattle.lists.proofs.Tables.{get_or_table, table_ext, set_table}
 use Rattle.rota.specs.Call.{Call, tell, turn, told, granted, refused}
 use Rattle.rota.specs.Rota.{fresh_rota, left_at, has_some, waits_in, with_left, tell_refusal, tell_done, share, turn_done, perform}
 use Rattle.rota.specs.History.{Event, told_event, grant_event, account, waits, owed, last_served, grant_for, reply_to, call_number, told_with, granted_with, advance}
 use Rattle.rota.specs.Follows.{rota_for, RotaFollows}
-use Rattle.rota.proofs.Ring.{Nearest, somebody, nearest, first_same}
+use Rattle.rota.proofs.Ring.{first_below, first_same}
 
 module _ (l : List Event) where
   -- the picture has left for a head what it is owed
@@ -68,13 +68,13 @@ module _ (l : List Event) where
       go true q = rw (q, ← eqb-true j h q) (omega arith)
       go false q = rw q refl
 
-  granted_done : (r : Option ℕ) → Nearest (last_served l % 12) (waits l) r
+  granted_done : (r : Option ℕ) → IfSome r (λ h. h < 12)
       → turn_done (rota_for l) r ≡ record { reply = granted (option_map (grant_for l) r); rota = rota_for (granted_with l (option_map (grant_for l) r)) }
   unfolding last_served
-  granted_done None s = refl
-  granted_done (Some h) (somebody d t s) =
+  granted_done None d = refl
+  granted_done (Some h) d =
       rw (left_is h d)
-      (ap (λ left. record { reply = granted (Some (grant_for l h)); rota = record { left = left; last = h } })
+      (ap (λ left. record { reply = granted (Some (grant_for l h)); rota = record (rota_for (grant_event (grant_for l h) ∷ l)) { left = left } })
       (set_table 12 (owed l) h (owed l h - share (owed l h))
       ∙ table_ext 12 (λ j. cond (eqb j h) (owed l h - share (owed l h)) (owed l j)) (owed (grant_event (grant_for l h) ∷ l)) (λ j d. owed_granted h (share (owed l h)) j)))
 
@@ -85,7 +85,7 @@ fresh_is = refl
 call_is : (l : List Event) (c : Call) → perform (rota_for l) c ≡ record { reply = reply_to l c; rota = rota_for (advance l c) }
 unfolding perform
 call_is l (tell h n) = rw (same_refusal l h n) (told_done l h n (tell_refusal h (waits l h) n))
-call_is l turn = rw (first_same (last_served l) (waits_in (rota_for l)) (waits l) (waits_is l)) (granted_done l _ (nearest (last_served l) (waits l)))
+call_is l turn = ap (turn_done (rota_for l)) (first_same _ _ _ (waits_is l)) ∙ granted_done l _ (first_below _ _)
 
 told_nothing : (l : List Event) (h n m : ℕ) → (m ≡ 0 → ⊥) → told_with l h n m ≡ l
 told_nothing l h n zero z = absurd (z refl)

@@ -6,7 +6,7 @@ use mathlib.Core.List.{List, [], ◌∷◌, map}
 use native.Mathlib.Omega.{arith}
 use borrow.Author.Tests.{clash}
 use Rattle.std.specs.List.{find, range_with_len}
-use Rattle.std.specs.Prelude.{Option, None, Some}
+use Rattle.std.specs.Prelude.{Option, None, Some, IfSome}
 use Rattle.rota.specs.Ring.{ring_after, first_after, places}
 
 -- What `first_after` answers, said by the places: a head for which the test holds and of these the nearest, or none where it holds for no head.
@@ -48,6 +48,13 @@ nearest_from q test l k (suc m) one e from = go (test ((q + k) % 12)) refl (λ f
 pub nearest : (p : ℕ) (test : ℕ → Bool) → Nearest (p % 12) test (first_after p test)
 unfolding ring_after
 nearest p test = nearest_from (p % 12) test (omega arith) 1 12 (omega arith) refl (λ g d t. omega arith)
+
+below : {p : ℕ} {test : ℕ → Bool} {r : Option ℕ} → Nearest p test r → IfSome r (λ h. h < 12)
+below (nobody z) = tt
+below (somebody l t n) = l
+
+pub first_below : (p : ℕ) (test : ℕ → Bool) → IfSome (first_after p test) (λ h. h < 12)
+first_below p test = below (nearest p test)
 
 -- two tests that agree on the twelve heads find the same one
 same_find : (f : ℕ → ℕ) (t u : ℕ → Bool) → ((i : ℕ) → t (f i) ≡ u (f i)) → (xs : List ℕ) → find t (map f xs) ≡ find u (map f xs)

@@ -12,7 +12,7 @@ use Rattle.filter_core.proofs.Rows.{then_zero}
 use Rattle.rota.specs.Ring.{first_after}
 use Rattle.rota.specs.Call.{Call, tell, turn}
 use Rattle.rota.specs.Rota.{head_refusal, waiting_refusal, samples_refusal, tell_refusal, share}
-use Rattle.rota.specs.History.{Event, told_event, grant_event, Account, granted_more, account, Waits, waits, owed, last_served, grant_for, told_with, granted_with, advance, advance_all}
+use Rattle.rota.specs.History.{Event, told_event, grant_event, Account, granted_more, account, Waits, waits, owed, last_served, grant_for, next_grant, told_with, granted_with, advance, advance_all}
 use Rattle.rota.specs.Fair.{Due}
 use Rattle.rota.specs.declared.Grant.{Grant}
 use Rattle.rota.proofs.Ring.{Nearest, nobody, somebody, nearest}
@@ -53,7 +53,7 @@ module _ (l : List Event) (S : Sound l) where
       either (Fine h) (eqb h g) (granted_more (account h l) n) (account h l)
       (λ e. let i = eqb-true h g e in record { most = omega (arith, S.most h, rw (← i) at m); within = λ w. omega (arith, i) })
       (fine h))
-      d
+      (omega (arith, S.served))
 
 -- ---- the calls
 
@@ -83,7 +83,7 @@ module _ (l : List Event) (S : Sound l) where
   by_nearest (Some h) (somebody d t n) =
       grants d (record { waits = ltb-true _ _ t; samples = omega arith; nearest = λ g w. n g (S.within g w) (lt-ltb _ _ w) })
 
-  pub turned : Turned l (option_map (grant_for l) (first_after (last_served l) (waits l)))
+  pub turned : Turned l (next_grant l)
   turned =
       let e : last_served l % 12 ≡ last_served l = omega (arith, S.served) in
       by_nearest _ (rw e at (nearest (last_served l) (waits l)))

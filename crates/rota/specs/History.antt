@@ -47,9 +47,12 @@ last_served (grant_event x ∷ l) = x.head
 abbrev pub grant_for : List Event → ℕ → Grant
 grant_for l h = record { head = h; samples = share (owed l h) }
 
+abbrev pub next_grant : List Event → Option Grant
+next_grant l = option_map (grant_for l) (first_after (last_served l) (waits l))
+
 abbrev pub reply_to : List Event → Call → Reply
 reply_to l (tell h n) = told (tell_refusal h (waits l h) n)
-reply_to l turn = granted (option_map (grant_for l) (first_after (last_served l) (waits l)))
+reply_to l turn = granted (next_grant l)
 
 -- its number, in the table's order
 abbrev pub call_number : List Event → Call → ℕ

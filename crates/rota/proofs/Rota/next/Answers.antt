@@ -13,6 +13,6 @@ unfolding ring_after
 returns-clause-first c =
     sym (option_map_id c.find.result)
     ∙ find_from_yields_List (waits_in c.args.self.now) _ _ c.find.result c.find.ensures.ran
-    (YieldsList-from_map _ (λ k. (c.args.self.now.last % 12 + k) % 12) (YieldsList-from_range 1 13 12 c.map.ensures.source refl) c.map.ensures.closure
+    (YieldsList-from_map _ (λ k. (c.args.self.now.last % 12 + k) % 12) (YieldsList-from_range 1 _ 12 c.map.ensures.source refl) c.map.ensures.closure
     (λ x r q k. search rules))
     (λ x b q k. search (rules, tests))
