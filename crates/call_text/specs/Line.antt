@@ -18,10 +18,10 @@ use Rattle.call_text.specs.declared.line.BadLine.TheVariants.{NoCall, Words}
 abbrev pub CallOf : Type 0
 CallOf = Call (List ℕ)
 
--- not a word
-abbrev pub begin_call : List (List ℕ) → Option CallOf
-begin_call [] = Some Begin
-begin_call _ = None
+-- not a word: the keyword alone is the call
+abbrev pub bare_call : CallOf → List (List ℕ) → Option CallOf
+bare_call call [] = Some call
+bare_call call _ = None
 
 -- HEAD
 abbrev pub one_number : List (List ℕ) → Option ℕ
@@ -79,7 +79,7 @@ call_for keyword.Check1 fields = option_map (paired Check1) (buffer_and_number f
 call_for keyword.Lookup1 fields = option_map (paired Lookup1) (buffer_and_number fields)
 call_for keyword.Convert fields = convert_call fields
 call_for keyword.Count fields = option_map Count (one_number fields)
-call_for keyword.Begin fields = begin_call fields
+call_for keyword.Begin fields = bare_call Begin fields
 call_for keyword.Take fields = option_map Take (one_buffer fields)
 
 -- an answer of `call_of`: none for a silent line

@@ -2,7 +2,7 @@
 
 ghost use Rattle.std.specs.Prelude.{◌≡◌, option_map, option_copied};
 ghost use Rattle.form_text.specs.Field.{fields_left};
-ghost use Rattle.call_text.specs.Line.{one_number, two_numbers, one_buffer, buffer_and_number, begin_call, convert_call, run_call, two_call, call_for, call_of, text_pair, text_call, text_answer};
+ghost use Rattle.call_text.specs.Line.{one_number, two_numbers, one_buffer, buffer_and_number, bare_call, convert_call, run_call, two_call, call_for, call_of, text_pair, text_call, text_answer};
 
 use crate::buffer::units_field;
 use crate::edition::edition_of;
@@ -82,12 +82,12 @@ pub enum BadLine {
 
 // Each reader below has words of its own behind the keyword: one for any two words would be told how each is read, and be no shorter.
 
-// Not a word.
-fn begin_call<'a>(fields: Fields<'a>) -> Option<Call<&'a [u8]>>
-    ensures { option_map text_call result ≡ begin_call (fields_left fields.entry) }
+// Not a word: the keyword alone is the call.
+fn bare_call<'a>(call: Call<&'a [u8]>, fields: Fields<'a>) -> Option<Call<&'a [u8]>>
+    ensures { option_map text_call result ≡ bare_call (text_call call.entry) (fields_left fields.entry) }
 {
     fields.end()?;
-    Some(Call::Begin)
+    Some(call)
 }
 
 // HEAD
@@ -203,7 +203,7 @@ fn call_for<'a>(keyword: Keyword, fields: Fields<'a>) -> Option<Call<&'a [u8]>>
         }
         Keyword::Convert => convert_call(fields)?,
         Keyword::Count => Call::Count(one_number(fields)?),
-        Keyword::Begin => begin_call(fields)?,
+        Keyword::Begin => bare_call(Call::Begin, fields)?,
         Keyword::Take => Call::Take(one_buffer(fields)?),
     };
     Some(call)
