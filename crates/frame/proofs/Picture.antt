@@ -25,7 +25,11 @@ use Rattle.saves.specs.Save.{with_left, begin_refusal, begin_of, take_refusal}
 use Rattle.saves.specs.Rows.{BeginCase, no_entries}
 use Rattle.saves.proofs.Rows.{begin_row}
 use Rattle.saves.proofs.Parts.{begin_accepted, begin_refused, left_begun, take_refused}
-use Rattle.frame.specs.Call.{Call, opening, writing, loading, at, beginning, taking, plain, acted}
+use Rattle.rota.specs.Call as rota
+use Rattle.rota.specs.History.{call_number as rota_number}
+use Rattle.rota.specs.Follows.{rota_for}
+use Rattle.rota.proofs.Follows.{rota_follows}
+use Rattle.frame.specs.Call.{Call, opening, writing, loading, at, beginning, taking, at_rota, plain, acted, of_rota}
 use Rattle.frame.specs.Calls.{with_head, settled, perform}
 use Rattle.frame.specs.History.{Histories, call_number, with_history, advance, reply_to}
 use Rattle.frame.proofs.Sound.{Sound}
@@ -33,7 +37,7 @@ use Rattle.saves.specs.declared.Save.{Save}
 use Rattle.frame.specs.declared.Frame.{Frame}
 
 abbrev pub frame_for : Histories → Frame
-frame_for H = record { heads = table 12 (λ h. head_for (H.heads h)); library = library_of H.sheet; save = with_left H.left }
+frame_for H = record { heads = table 12 (λ h. head_for (H.heads h)); library = library_of H.sheet; save = with_left H.left; rota = rota_for H.rota }
 
 pub cond_out : {A B : Type 0} (g : A → B) (b : Bool) (x y : A) → cond b (g x) (g y) ≡ g (cond b x y)
 cond_out g true x y = refl
@@ -154,6 +158,16 @@ follows_take H out = go (eqb (take_refusal v) 0) refl
         let t = take_refused v out (eqb-false (take_refusal v) 0 q) in
         rw (q, t.save, t.output, t.length) refl
 
+follows_rota : (H : Histories) (c : rota.Call) → Follows H (at_rota c)
+unfolding perform reply_to advance call_number
+follows_rota H c = go (eqb (rota_number H.rota c) 0) refl
+  where
+    go : (b : Bool) → eqb (rota_number H.rota c) 0 ≡ b → Follows H (at_rota c)
+    go true q = rw (q, rota_follows.call H.rota c) refl
+    go false q =
+        let t = rota_follows.refused H.rota c (eqb-false _ _ q) in
+        rw (q, rota_follows.call H.rota c, t.1) (ap (λ r. record { reply = of_rota r; frame = frame_for H }) t.0)
+
 pub follows : (H : Histories) (c : Call) → Sound H → Follows H c
 follows H (opening s) S = follows_open H s
 follows H (writing out) S = follows_write H out
@@ -161,3 +175,4 @@ follows H (loading h e) S = follows_load H h e S
 follows H (at h a) S = follows_at H h a S
 follows H beginning S = follows_begin H S
 follows H (taking out) S = follows_take H out
+follows H (at_rota c) S = follows_rota H c

@@ -12,8 +12,10 @@ use Rattle.heads.specs.Act.{Act, run, run_two, rest, mark, back, drop, count, he
 use Rattle.heads.specs.Head.{empty_head, turn}
 use Rattle.heads.proofs.Refused as head
 use Rattle.saves.proofs.Parts.{begin_refused, take_refused}
-use Rattle.frame.specs.Call.{Call, opening, writing, loading, at, beginning, taking, number_in, refused}
-use Rattle.frame.specs.Calls.{head_at, Done, refuse, settled, perform}
+use Rattle.rota.specs.Call as rota
+use Rattle.rota.proofs.Fairness.{fair}
+use Rattle.frame.specs.Call.{Call, opening, writing, loading, at, beginning, taking, at_rota, number_in, refused}
+use Rattle.frame.specs.Calls.{head_at, Done, refuse, settled, turned, perform}
 use Rattle.frame.specs.Refused.{RefusedLeaves}
 use Rattle.frame.specs.declared.Frame.{Frame}
 
@@ -47,6 +49,10 @@ leaves_take : (f : Frame) (out : List ℕ) → Leaves f (taking out) (perform f 
 unfolding perform
 leaves_take f out z = let t = take_refused f.save out z in rw (t.save, t.output, t.length) refl
 
+leaves_rota : (f : Frame) (c : rota.Call) → Leaves f (at_rota c) (perform f (at_rota c))
+unfolding perform
+leaves_rota f c z = ap (turned f) (fair.refused f.rota c z)
+
 refused_number : (a : Act) → head_number (refused_act 1 a) ≡ 1
 refused_number (run form us ys) = refl
 refused_number (run_two form us ys zs) = refl
@@ -70,3 +76,4 @@ refused_leaves f (loading h e) =
 refused_leaves f (at h a) = either f (at h a) (ltb 11 h) _ _ (refusing f (at h a) 1 (refused_number a)) (put_back f h a)
 refused_leaves f beginning = leaves_begin f
 refused_leaves f (taking out) = leaves_take f out
+refused_leaves f (at_rota c) = leaves_rota f c

@@ -16,7 +16,8 @@ use Rattle.heads.specs.History.{HeadHistory}
 use Rattle.heads.specs.Rows.{ActCase}
 use Rattle.heads.proofs.Rows.{head_by_rows}
 use Rattle.saves.proofs.Rows.{begin_row, take_row}
-use Rattle.frame.specs.Call.{Call, opening, writing, loading, at, beginning, taking}
+use Rattle.rota.proofs.Rows.{rota_row}
+use Rattle.frame.specs.Call.{Call, opening, writing, loading, at, beginning, taking, at_rota}
 use Rattle.frame.specs.History.{Histories, no_histories, head_first, call_number, advance_all}
 use Rattle.frame.specs.Rows.{AtCase, no_head, of_head, LoadCase, no_entry, Row, NumbersByRows}
 use Rattle.frame.proofs.Sound.{Sound, sound_all, sound_none}
@@ -61,6 +62,7 @@ row H (loading h e) S =
 row H (at h a) S = exactly (by_head (not_head a) (head_by_rows (H.heads h) a (S.each h)).is)
 row H beginning S = exactly (begin_row (length H.left) (library_of H.sheet) (entries_of H.sheet) S.sheet.held)
 row H (taking out) S = exactly (take_row (length H.left))
+row H (at_rota c) S = rota_row H.rota c
 
 pub numbers_by_rows : NumbersByRows
 unfolding NumbersByRows

@@ -19,7 +19,7 @@ use Rattle.saves.specs.declared.Save.{Save}
 use Rattle.saves.specs.Save.{zero_bytes, left_of}
 use Rattle.saves.proofs.Rows.{unfinished_step, finished_step}
 use Rattle.saves.proofs.Parts.{parts, begin_refused, none_left}
-use Rattle.frame.specs.Call.{Call, opening, writing, loading, at, beginning, taking, number_in, wrote}
+use Rattle.frame.specs.Call.{Call, opening, writing, loading, at, beginning, taking, at_rota, number_in, wrote}
 use Rattle.frame.specs.Calls.{Done, with_save, perform}
 use Rattle.frame.specs.History.{Histories, no_histories, call_number, grown, advance, advance_all}
 use Rattle.frame.specs.Demand.{replies_from, frame_after}
@@ -52,6 +52,7 @@ module _ (f : Frame) (v : Save) where
   aside (at h a) q = either_aside (ltb 11 h) _ _ _ _ refl refl
   aside beginning q = absurd (clash (sym q))
   aside (taking out) q = absurd (clash (sym q))
+  aside (at_rota c) q = refl
 
 -- ---- a list without its begins and takes
 
@@ -64,6 +65,7 @@ alone f (loading h e) q = absurd (clash q)
 alone f (at h a) q = absurd (clash q)
 alone f beginning q = refl
 alone f (taking out) q = refl
+alone f (at_rota c) q = absurd (clash q)
 
 same_frame : (f : Frame) (cs : List Call) → frame_after f cs ≡ with_save (frame_after f (without is_begin_or_take cs)) (frame_after f cs).save
 same_frame f = frame_beside is_begin_or_take with_save (λ f. f.save) (λ f v. refl) aside (λ f v c q. alone (with_save f v) c q) f f.save
@@ -86,6 +88,7 @@ module _ (H : Histories) where
   histories_aside l (at h a) q = cond_out (λ G. with_bytes G l) (eqb (call_number H (at h a)) 0) (grown H (at h a)) H
   histories_aside l beginning q = absurd (clash (sym q))
   histories_aside l (taking out) q = absurd (clash (sym q))
+  histories_aside l (at_rota c) q = cond_out (λ G. with_bytes G l) (eqb (call_number H (at_rota c)) 0) (grown H (at_rota c)) H
 
   only_left : (b : Bool) (l : List ℕ) → cond b (with_bytes H l) H ≡ with_bytes H (cond b (with_bytes H l) H).left
   only_left true l = refl
@@ -99,6 +102,7 @@ module _ (H : Histories) where
   histories_alone (at h a) q = absurd (clash q)
   histories_alone beginning q = only_left (eqb (call_number H beginning) 0) H.sheet
   histories_alone (taking out) q = only_left (eqb (call_number H (taking out)) 0) (drop (room 0 H.left out) H.left)
+  histories_alone (at_rota c) q = absurd (clash q)
 
 same_histories : (H : Histories) (cs : List Call) → advance_all H cs ≡ with_bytes (advance_all H (without is_begin_or_take cs)) (advance_all H cs).left
 unfolding advance_all
@@ -131,6 +135,7 @@ part_other f (loading h e) z = ap left_of (others f (loading h e) refl)
 part_other f (at h a) z = ap left_of (others f (at h a) refl)
 part_other f beginning z = absurd (z refl)
 part_other f (taking out) z = part_taken f out
+part_other f (at_rota c) z = ap left_of (others f (at_rota c) refl)
 
 joined_first : (f : Frame) (c : Call) (cs : List Call) → Part_of f c
     → parts_from (perform f c).frame cs ++ left_of (frame_after (perform f c).frame cs).save ≡ left_of (perform f c).frame.save

@@ -15,7 +15,7 @@ use Rattle.library.proofs.RoundTrip.{same_entries, no_sheet}
 use Rattle.heads.specs.History.{HeadHistory, act_number}
 use Rattle.heads.specs.Follows.{SoundHead}
 use Rattle.heads.proofs.Sound as head
-use Rattle.frame.specs.Call.{Call, opening, writing, loading, at, beginning, taking}
+use Rattle.frame.specs.Call.{Call, opening, writing, loading, at, beginning, taking, at_rota}
 use Rattle.frame.specs.History.{Histories, no_histories, head_first, call_number, with_history, grown, advance, advance_all}
 
 -- the library is that of a sheet, or none, and its entries are the sheet's; where there are some, it is a sheet
@@ -55,6 +55,7 @@ sound_accepted H (at h a) S q =
     sound_at H h _ S (head.sound_grown (H.heads h) a (S.each h) (past_head h (act_number (H.heads h) a) q))
 sound_accepted H beginning S q = record { sheet = S.sheet; each = S.each }
 sound_accepted H (taking out) S q = record { sheet = S.sheet; each = S.each }
+sound_accepted H (at_rota c) S q = record { sheet = S.sheet; each = S.each }
 
 pub sound_advance : (H : Histories) (c : Call) → Sound H → Sound (advance H c)
 unfolding advance

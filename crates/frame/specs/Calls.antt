@@ -1,5 +1,5 @@
 -- What each call does to a frame, as its contract has it.
-use Rattle.std.specs.Prelude.{ℕ, cond, List, leb, ltb, eqb, length, get_or, set, replicate, Float, Result}
+use Rattle.std.specs.Prelude.{ℕ, cond, List, leb, ltb, eqb, length, get_or, set, replicate, Float, Result, Option}
 use Rattle.std.specs.Result.{result_unwrap_or}
 use Rattle.filter_core.specs.Refusal.{number_in, unless_refused}
 use Rattle.filter_core.specs.declared.refusal.Refusal.{Refusal}
@@ -12,7 +12,11 @@ use Rattle.heads.specs.Head.{empty_head, holding, Turned, turn}
 use Rattle.heads.specs.declared.Head.{Head}
 use Rattle.saves.specs.Save.{no_save, left_of, begin_refusal, begin_of, take_refusal, take_length, take_of, taken_of}
 use Rattle.saves.specs.declared.Save.{Save}
-use Rattle.frame.specs.Call.{Call, opening, writing, loading, at, beginning, taking, Reply, plain, wrote, acted, refused}
+use Rattle.rota.specs.Call.{told, granted}
+use Rattle.rota.specs.Rota as rota
+use Rattle.rota.specs.declared.Grant.{Grant}
+use Rattle.rota.specs.declared.Rota.{Rota}
+use Rattle.frame.specs.Call.{Call, opening, writing, loading, at, beginning, taking, at_rota, Reply, plain, wrote, acted, of_rota, refused}
 use Rattle.frame.specs.declared.Frame.{Frame}
 
 -- ---- a frame's parts
@@ -30,12 +34,11 @@ with_library f l = record f { library = l }
 abbrev pub with_save : Frame → Save → Frame
 with_save f v = record f { save = v }
 
-abbrev pub fresh_frame : Frame
-fresh_frame = record { heads = replicate 12 empty_head; library = library.none; save = no_save }
+abbrev pub with_rota : Frame → Rota → Frame
+with_rota f r = record f { rota = r }
 
--- a head above 11 gets the number 1
-abbrev pub head_number : ℕ → ℕ
-head_number h = cond (ltb 11 h) 1 0
+abbrev pub fresh_frame : Frame
+fresh_frame = record { heads = replicate 12 empty_head; library = library.none; save = no_save; rota = rota.fresh_rota }
 
 -- ---- each call: what a caller sees, and the frame that the next call gets
 
@@ -69,6 +72,10 @@ writes l out =
 abbrev pub takes : Save → List ℕ → Reply
 takes v out = wrote (take_refusal v) (take_length v out) (taken_of v out)
 
+-- what the rota replies, and the frame with the rota that it leaves
+abbrev pub turned : Frame → rota.Done → Done
+turned f d = record { reply = of_rota d.reply; frame = with_rota f d.rota }
+
 unfoldable pub perform : Frame → Call → Done
 perform f (opening s) = cond (eqb (check_of s) 0) (record { reply = plain 0; frame = with_library f (library.library_of s) }) (refuse f (opening s) (check_of s))
 perform f (writing out) = record { reply = writes f.library out; frame = f }
@@ -76,6 +83,7 @@ perform f (loading h e) = at_head f (loading h e) h (load_done f h e)
 perform f (at h a) = at_head f (at h a) h (settled f h (turn (head_at f h) a))
 perform f beginning = record { reply = plain (begin_refusal (length (left_of f.save)) f.library); frame = with_save f (begin_of f.save f.library) }
 perform f (taking out) = record { reply = takes f.save out; frame = with_save f (take_of f.save out) }
+perform f (at_rota c) = turned f (rota.perform f.rota c)
 
 -- ---- the answers of the code, the frame that it leaves, and the lent outputs as they are left. A refused call answers 0 beside its number
 
@@ -99,3 +107,9 @@ with_count r f = record { reply = acted (counted (number_in r) (result_unwrap_or
 
 abbrev pub with_written : Result ℕ Refusal → Frame → List ℕ → Done
 with_written r f out = record { reply = wrote (number_in r) (result_unwrap_or r 0) out; frame = f }
+
+abbrev pub with_telling : {A : Type 0} → Result A Refusal → Frame → Done
+with_telling r f = record { reply = of_rota (told (number_in r)); frame = f }
+
+abbrev pub with_grant : Option Grant → Frame → Done
+with_grant g f = record { reply = of_rota (granted g); frame = f }

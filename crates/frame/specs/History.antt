@@ -6,18 +6,20 @@ use Rattle.sheets.specs.Sheet.{entries_of, entry_in, check_of}
 use Rattle.library.specs.Library.{library_of, write_number, sheet_length, written_of}
 use Rattle.heads.specs.History.{load_event, HeadHistory, no_history, act_number, adding, grown_by, accepted_act}
 use Rattle.saves.specs.Save.{begin_refusal, finished_refusal}
-use Rattle.frame.specs.Call.{Call, opening, writing, loading, at, beginning, taking, Reply, plain, wrote, acted, refused}
+use Rattle.rota.specs.History as rota
+use Rattle.frame.specs.Call.{Call, opening, writing, loading, at, beginning, taking, at_rota, Reply, plain, wrote, acted, of_rota, refused}
 
--- the sheet of the last accepted open, the empty list before any; each head's history; and what is left to take of the save that was begun
--- last (02 h), the empty list where none is unfinished
+-- the sheet of the last accepted open, the empty list before any; each head's history; what is left to take of the save that was begun last
+-- (02 h), the empty list where none is unfinished; and the rota's history, of its own calls (02 b)
 pub record Histories : Type 0 where
   pub sheet : List ℕ
   pub heads : ℕ → HeadHistory
   pub left : List ℕ
+  pub rota : List rota.Event
 
 -- a fresh frame's
 abbrev pub no_histories : Histories
-no_histories = record { sheet = []; heads = λ h. no_history; left = [] }
+no_histories = record { sheet = []; heads = λ h. no_history; left = []; rota = [] }
 
 -- ---- the number of each call, in the table's order
 
@@ -36,6 +38,7 @@ call_number H (loading h e) = head_first h (load_number H.sheet e)
 call_number H (at h a) = head_first h (act_number (H.heads h) a)
 call_number H beginning = begin_refusal (length H.left) (library_of H.sheet)
 call_number H (taking out) = finished_refusal (length H.left)
+call_number H (at_rota c) = rota.call_number H.rota c
 
 -- ---- what an accepted call adds
 
@@ -55,6 +58,7 @@ grown H (loading h e) = with_history H h (adding (H.heads h) (load_event (entry_
 grown H (at h a) = with_history H h (grown_by (H.heads h) a)
 grown H beginning = record H { left = H.sheet }
 grown H (taking out) = record H { left = drop (room 0 H.left out) H.left }
+grown H (at_rota c) = record H { rota = rota.advance H.rota c }
 
 -- a refused call adds nothing
 unfoldable pub advance : Histories → Call → Histories
@@ -73,6 +77,7 @@ accepted H (loading h e) = plain 0
 accepted H (at h a) = acted (accepted_act (H.heads h) a)
 accepted H beginning = plain 0
 accepted H (taking out) = wrote 0 (room 0 H.left out) (over 0 H.left out)
+accepted H (at_rota c) = of_rota (rota.reply_to H.rota c)
 
 unfoldable pub reply_to : Histories → Call → Reply
 reply_to H c = cond (eqb (call_number H c) 0) (accepted H c) (refused (call_number H c) c)

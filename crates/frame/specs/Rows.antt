@@ -7,7 +7,8 @@ use Rattle.sheets.specs.Rows.{SheetRow}
 use Rattle.library.specs.Rows.{WriteCase}
 use Rattle.heads.specs.Rows.{ActCase, numbers_of}
 use Rattle.saves.specs.Rows.{BeginCase, TakeCase}
-use Rattle.frame.specs.Call.{Call, opening, writing, loading, at, beginning, taking}
+use Rattle.rota.specs.Rows as rota
+use Rattle.frame.specs.Call.{Call, opening, writing, loading, at, beginning, taking, at_rota}
 use Rattle.frame.specs.History.{Histories, no_histories, call_number, advance_all}
 
 -- a call at the head h: its own cases are those of the head
@@ -21,7 +22,7 @@ pub data LoadCase (s : List ℕ) (e : ℕ) : ℕ → Type 0 where
   -- 5: as many entries as the sheet announces, none where there is no sheet
   no_entry : entries_of s ≤ e → LoadCase s e 5
 
--- A sheet, a write, a begin and a take have rows of their own, below the frame.
+-- A sheet, a write, a begin, a take and the rota's calls have rows of their own, below the frame.
 abbrev pub Row : Histories → Call → ℕ → Type 0
 Row H (opening s) n = Only (SheetRow s) n
 Row H (writing out) n = Exactly (WriteCase (entries_of H.sheet) (length out)) (2 ∷ 12 ∷ []) n
@@ -29,6 +30,7 @@ Row H (loading h e) n = Exactly (AtCase h (LoadCase H.sheet e)) (1 ∷ 5 ∷ [])
 Row H (at h a) n = Exactly (AtCase h (ActCase (H.heads h) a)) (1 ∷ numbers_of a) n
 Row H beginning n = Exactly (BeginCase (length H.left) (entries_of H.sheet)) (16 ∷ 2 ∷ []) n
 Row H (taking out) n = Exactly (TakeCase (length H.left)) (17 ∷ []) n
+Row H (at_rota c) n = Exactly (rota.RotaCase H.rota c) (rota.numbers_of c) n
 
 -- after any calls on a fresh frame, a call's number is that of its row
 unfoldable pub NumbersByRows : Type 0

@@ -1,11 +1,13 @@
-// The frame: twelve heads, one library, and the save that was begun last. A call that is refused leaves the frame as it was.
+// The frame: twelve heads, one library, the save that was begun last, and the rota. A call that is refused leaves the frame as it was.
 #![tactic(auto)]
 
 ghost use Rattle.std.specs.Prelude.{◌≡◌, IfOk};
 ghost use Rattle.filter_core.specs.Refusal.{number_in};
 ghost use Rattle.heads.specs.Act.{run, run_two, rest, mark, back, drop, count};
-ghost use Rattle.frame.specs.Call.{opening, writing, loading, at, beginning, taking};
-ghost use Rattle.frame.specs.Calls.{head_at, fresh_frame, head_number, perform, plainly, acting, with_output, with_outputs, with_mark, with_count, with_written};
+ghost use Rattle.rota.specs.Call.{tell, turn};
+ghost use Rattle.rota.specs.Rota.{head_refusal};
+ghost use Rattle.frame.specs.Call.{opening, writing, loading, at, beginning, taking, at_rota};
+ghost use Rattle.frame.specs.Calls.{head_at, fresh_frame, perform, plainly, acting, with_output, with_outputs, with_mark, with_count, with_written, with_telling, with_grant};
 ghost use Rattle.frame.specs.Refused.{RefusedLeaves};
 ghost use Rattle.frame.specs.Rows.{NumbersByRows};
 ghost use Rattle.frame.specs.Demand.{Demand3};
@@ -15,6 +17,7 @@ ghost use Rattle.frame.specs.Saves.{Saving};
 use filter_core::Refusal;
 use heads::{Head, Snapshot};
 use library::Library;
+use rota::{Grant, Rota, check_head};
 use runs::RunForm;
 use saves::Save;
 use std::array;
@@ -24,21 +27,11 @@ pub struct Frame {
     pub heads: [Head; 12],
     pub library: Library,
     pub save: Save,
-}
-
-// There are twelve heads.
-fn check_head(head: usize) -> Result<(), Refusal>
-    ensures { number_in result ≡ head_number head }
-{
-    if head < 12 {
-        Ok(())
-    } else {
-        Err(Refusal::Head)
-    }
+    pub rota: Rota,
 }
 
 impl Frame {
-    // Twelve empty heads, no library, and no save begun.
+    // Twelve empty heads, no library, no save begun, and a fresh rota.
     pub fn fresh() -> Frame
         ensures { result ≡ fresh_frame }
     {
@@ -46,6 +39,7 @@ impl Frame {
             heads: array::from_fn(|_| Head::empty()),
             library: library::none(),
             save: Save::none(),
+            rota: Rota::fresh(),
         }
     }
 
@@ -171,9 +165,25 @@ impl Frame {
         self.save.take(output)
     }
 
+    // Has a head wait for so many samples, of which its turns will grant it at most 256 each.
+    #[tactic(auto, unfolding(crate::specs::Calls::perform))]
+    pub fn tell(&mut self, head: usize, samples: u16) -> Result<(), Refusal>
+        ensures { with_telling result self.new ≡ perform self.old (at_rota (tell head samples)) }
+    {
+        self.rota.tell(head, samples)
+    }
+
+    // Grants samples to the next head that waits. The head runs them itself: a turn changes the rota alone.
+    #[tactic(auto, unfolding(crate::specs::Calls::perform))]
+    pub fn turn(&mut self) -> Option<Grant>
+        ensures { with_grant result self.new ≡ perform self.old (at_rota turn) }
+    {
+        self.rota.turn()
+    }
+
     // A head as it stands.
     pub fn show(&self, head: usize) -> Result<&Head, Refusal>
-        ensures refusal { number_in result ≡ head_number head }
+        ensures refusal { number_in result ≡ head_refusal head }
         ensures head { IfOk result (λ shown. shown.now ≡ head_at self.now head) }
     {
         check_head(head)?;

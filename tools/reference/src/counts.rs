@@ -16,6 +16,15 @@ impl Counts {
         }
     }
 
+    /// Counts each that is so.
+    pub fn add_each(&mut self, cases: &[(&str, bool)]) {
+        for (what, is) in cases {
+            if *is {
+                self.add(what, 1);
+            }
+        }
+    }
+
     pub fn of(&self, what: &str) -> u64 {
         self.0.get(what).copied().unwrap_or(0)
     }

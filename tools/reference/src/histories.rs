@@ -2,6 +2,7 @@
 
 use crate::filters::type_of;
 use crate::numbers::Numbers;
+use crate::rota::Rota;
 use oracle::{EXACT_LOWEST, MIRRORED};
 
 pub fn hex(bytes: &[u8]) -> String {
@@ -57,6 +58,7 @@ pub struct Writer {
     library: Vec<u8>,
     // How many bytes are left of a save.
     left: usize,
+    rota: Rota,
     heads: Vec<Guess>,
     favourites: Vec<u64>,
 }
@@ -68,6 +70,7 @@ impl Writer {
             text: String::new(),
             library: Vec::new(),
             left: 0,
+            rota: Rota::default(),
             heads: Vec::new(),
             favourites: Vec::new(),
         }
@@ -351,6 +354,11 @@ impl Writer {
         }
     }
 
+    fn open_any(&mut self) {
+        let sheet = self.any_sheet();
+        self.open(sheet);
+    }
+
     // An output for a sheet of so many bytes: one in four as long, one a byte too short, one a little longer, one by chance.
     fn output(&mut self, length: usize) -> Vec<u8> {
         let length = length as u64;
@@ -404,29 +412,69 @@ impl Writer {
         self.left = self.left.saturating_sub(out.len());
     }
 
-    // A save, mostly to its end, with opens, begins and any other calls between its parts.
-    fn save(&mut self) -> u64 {
-        self.begin();
-        let mut lines = 1;
-        while self.left > 0 && !self.numbers.percent(5) {
-            lines += match self.numbers.weighted(&[6, 2, 1, 3]) {
-                0 => {
-                    self.take();
-                    1
+    // Calls while there is something to go on with, mostly to its end: these, each with its weight, and any others with the last weight.
+    fn go_on(
+        &mut self,
+        something: fn(&Writer) -> bool,
+        calls: &[fn(&mut Writer)],
+        weights: &[u64],
+    ) -> u64 {
+        let mut lines = 0;
+        while something(self) && !self.numbers.percent(5) {
+            match calls.get(self.numbers.weighted(weights)) {
+                Some(call) => {
+                    call(self);
+                    lines += 1;
                 }
-                1 => {
-                    let sheet = self.any_sheet();
-                    self.open(sheet);
-                    1
-                }
-                2 => {
-                    self.begin();
-                    1
-                }
-                _ => self.step_on(),
-            };
+                None => lines += self.step_on(),
+            }
         }
         lines
+    }
+
+    // A save, with opens, begins and any other calls between its parts.
+    fn save(&mut self) -> u64 {
+        self.begin();
+        let calls = [Writer::take, Writer::open_any, Writer::begin];
+        1 + self.go_on(|writer| writer.left > 0, &calls, &[6, 2, 1, 3])
+    }
+
+    fn tell(&mut self, head: u64) {
+        let samples = match self.numbers.weighted(&[10, 60, 28, 2]) {
+            0 => 0,
+            1 => self.numbers.pick(&[1, 255, 256, 257, 512, 513]),
+            2 => 1 + self.numbers.below(1000),
+            _ => 65_535 - self.numbers.below(2),
+        };
+        let line = format!("tell {} {}", self.number(head), self.number(samples));
+        self.line(&line);
+        self.rota.tell(head, samples);
+    }
+
+    fn turn(&mut self) {
+        self.line("turn");
+        self.rota.turn();
+    }
+
+    // One telling in ten is of a head that is none.
+    fn tell_any(&mut self) {
+        let head = match self.numbers.weighted(&[9, 1]) {
+            0 => self.numbers.below(12),
+            _ => self.numbers.pick(&[12, u64::MAX]),
+        };
+        self.tell(head);
+    }
+
+    // Some heads are told, often all, and not in the ring's order; then there are turns, with tellings and any other calls between, and one
+    // turn more.
+    fn tellings(&mut self) -> u64 {
+        let first = self.numbers.below(12);
+        let some = 1 + self.numbers.below(18).min(11);
+        (0..some).for_each(|k| self.tell((first + 7 * k) % 12));
+        let waits = |writer: &Writer| writer.rota.waiting().next().is_some();
+        let lines = self.go_on(waits, &[Writer::turn, Writer::tell_any], &[9, 1, 1]);
+        self.turn();
+        some + lines + 1
     }
 
     fn load(&mut self, head: u64) {
@@ -520,7 +568,7 @@ impl Writer {
     }
 
     fn bad_line(&mut self) {
-        const BAD: [&str; 59] = [
+        const BAD: [&str; 75] = [
             "x",
             " ",
             "open",
@@ -580,6 +628,22 @@ impl Writer {
             "take",
             "take 0",
             "take - -",
+            "tell",
+            "tell 0",
+            "tell 0 ",
+            "tell 0 -",
+            "tell 0 0 0",
+            "tell 0 -1",
+            "tell -1 5",
+            "tell 0 65536",
+            "tell 12 65536",
+            "tell 0 18446744073709551615",
+            "tell 0 18446744073709551616",
+            "tell 18446744073709551616 5",
+            "turn ",
+            "turn 0",
+            "turn none",
+            "turns",
         ];
         match self.numbers.weighted(&[90, 8, 1, 1]) {
             0 => {
@@ -631,7 +695,7 @@ impl Writer {
     fn step_on(&mut self) -> u64 {
         let head = self.head();
         match self.numbers.weighted(&[
-            330, 130, 100, 60, 60, 35, 50, 40, 20, 20, 20, 20, 20, 20, 40, 5, 8, 6, 8,
+            330, 130, 100, 60, 60, 35, 50, 40, 20, 20, 20, 20, 20, 20, 40, 5, 8, 6, 5, 4, 4, 8,
         ]) {
             0 => self.run(head, 1),
             1 => self.run(head, 2),
@@ -647,10 +711,7 @@ impl Writer {
                 let line = format!("head {}", self.number(head));
                 self.line(&line);
             }
-            8 => {
-                let sheet = self.any_sheet();
-                self.open(sheet);
-            }
+            8 => self.open_any(),
             9 => {
                 let out = self.output(self.library.len());
                 let line = format!("write {}", hex(&out));
@@ -671,6 +732,9 @@ impl Writer {
             15 => self.begin(),
             16 => self.take(),
             17 => return self.save(),
+            18 => self.tell_any(),
+            19 => self.turn(),
+            20 => return self.tellings(),
             _ => match self.numbers.weighted(&[80, 10, 9, 1]) {
                 0 => self.bad_line(),
                 1 => self.line(""),
@@ -686,6 +750,7 @@ impl Writer {
         self.text.clear();
         self.library.clear();
         self.left = 0;
+        self.rota = Rota::default();
         self.heads = vec![Guess::default(); 12];
         let some = 1 + self.numbers.below(5);
         self.favourites = (0..some).map(|_| self.numbers.below(12)).collect();
@@ -702,9 +767,10 @@ impl Writer {
         while done < lines {
             done += self.step_on();
         }
-        // What is left of a save, and the library. The longest sheet has 834 bytes.
+        // What is left of a save, and the library, of which the longest has 834 bytes; a turn for each head that still waits.
         self.line(&lend("take", 834));
         self.line(&lend("write", 834));
+        (0..12).for_each(|_| self.turn());
         if self.numbers.percent(50) {
             self.text.pop();
         }
@@ -712,52 +778,87 @@ impl Writer {
     }
 }
 
-/// The alphabet of the short histories, on head h.
-pub fn letter(k: u64, h: u64) -> String {
-    match k {
-        0 => format!("load {h} 0"),
-        1 => format!("run {h} plain:low 3f800000bf000000 0000000000000000"),
-        2 => format!("run {h} plain:high 3e800000 00000000"),
-        3 => format!("rest {h}"),
-        4 => format!("mark {h}"),
-        5 => format!("back {h} 0"),
-        6 => format!("back {h} 1"),
-        7 => format!("drop {h} 0"),
-        8 => format!("drop {h} 1"),
-        _ => unreachable!(),
-    }
+/// A small alphabet of calls, of which every list is tried. A list has every shorter one as its start.
+pub struct Alphabet {
+    /// What its calls are.
+    pub calls: &'static str,
+    /// How many lists a history has, one after the other.
+    together: u64,
+    /// What a history begins with, by its number.
+    start: fn(u64) -> String,
+    /// The calls, and what a list ends with, by its place in the history.
+    letters: fn(u64) -> Vec<String>,
+    end: fn(u64) -> String,
 }
 
-pub const LETTERS: u64 = 9;
+impl Alphabet {
+    pub fn named(name: &str) -> Option<Alphabet> {
+        match name {
+            "short" => Some(SHORT),
+            "saves" => Some(SAVES),
+            "rota" => Some(ROTA),
+            _ => None,
+        }
+    }
+
+    /// How many lists there are of so many calls.
+    pub fn lists(&self, length: u32) -> u64 {
+        ((self.letters)(0).len() as u64).pow(length)
+    }
+
+    /// The histories of every list of exactly so many calls.
+    pub fn histories(&self, length: u32) -> impl Iterator<Item = Vec<u8>> + '_ {
+        let lists = self.lists(length);
+        let starts = (0..lists).step_by(self.together as usize);
+        starts.map(move |first| {
+            let mut text = (self.start)(first / self.together);
+            for list in first..lists.min(first + self.together) {
+                let place = list - first;
+                spell(&mut text, list, length, &(self.letters)(place));
+                text.push_str(&(self.end)(place));
+            }
+            text.into_bytes()
+        })
+    }
+}
 
 /// A list of so many letters, a line each: the digits of its number, the lowest first, each a letter of the alphabet.
-fn spell(text: &mut String, list: u64, length: u32, letters: u64, letter: impl Fn(u64) -> String) {
-    let mut rest = list;
+fn spell(text: &mut String, list: u64, length: u32, letters: &[String]) {
+    let mut rest = list as usize;
     for _ in 0..length {
-        text.push_str(&letter(rest % letters));
+        text.push_str(&letters[rest % letters.len()]);
         text.push('\n');
-        rest /= letters;
+        rest /= letters.len();
     }
 }
 
-/// Every list of exactly so many letters, twelve to a history: each list has a head of its own on a fresh frame, and what the head holds
-/// and its count are asked for at the end. Shorter lists are the starts of these.
-pub fn short(length: u32) -> impl Iterator<Item = Vec<u8>> {
-    // The sheets: one-pole in Exact and naive in approximation 4, at 0.1, in turn, so that two types and both editions are tried.
-    let sheets = [
-        "open 010002cdcccc3d0000000000000000",
-        "open 010245cdcccc3d0000003f00000000",
-    ];
-    let lists = LETTERS.pow(length);
-    (0..lists).step_by(12).map(move |first| {
-        let mut text = format!("{}\n", sheets[(first / 12 % 2) as usize]);
-        for (h, list) in (first..lists.min(first + 12)).enumerate() {
-            spell(&mut text, list, length, LETTERS, |k| letter(k, h as u64));
-            text.push_str(&format!("head {h}\ncount {h}\n"));
-        }
-        text.into_bytes()
-    })
-}
+/// Each list has a head of its own on a fresh frame, and what the head holds and its count are asked for at the end.
+const SHORT: Alphabet = Alphabet {
+    calls: "calls",
+    together: 12,
+    // One-pole in Exact and naive in approximation 4, at 0.1, in turn, so that two types and both editions are tried.
+    start: |history| {
+        [
+            "open 010002cdcccc3d0000000000000000\n",
+            "open 010245cdcccc3d0000003f00000000\n",
+        ][(history % 2) as usize]
+            .to_string()
+    },
+    letters: |h| {
+        vec![
+            format!("load {h} 0"),
+            format!("run {h} plain:low 3f800000bf000000 0000000000000000"),
+            format!("run {h} plain:high 3e800000 00000000"),
+            format!("rest {h}"),
+            format!("mark {h}"),
+            format!("back {h} 0"),
+            format!("back {h} 1"),
+            format!("drop {h} 0"),
+            format!("drop {h} 1"),
+        ]
+    },
+    end: |h| format!("head {h}\ncount {h}\n"),
+};
 
 /// A line that lends an output of so many places.
 fn lend(call: &str, places: usize) -> String {
@@ -770,29 +871,42 @@ const SHORT_SHEETS: [&str; 2] = [
     "02024201cdcc4c3e00000000000000000000003f0000000000000000",
 ];
 
-/// The alphabet of the lists of saves. Two takes of 14 places end exactly with the longer sheet; of the shorter one the second gets a byte.
-fn save_letter(k: u64) -> String {
-    match k {
-        0 | 1 => format!("open {}", SHORT_SHEETS[k as usize]),
-        2 => "begin".to_string(),
-        3 => lend("take", 0),
-        4 => lend("take", 14),
-        5 => lend("take", 30),
-        _ => unreachable!(),
-    }
-}
+/// Each list is on a fresh frame; at the end what is left is taken, and the library written. Two takes of 14 places end exactly with the
+/// longer sheet; of the shorter one the second gets a byte.
+const SAVES: Alphabet = Alphabet {
+    calls: "opens, begins and takes",
+    together: 1,
+    start: |_| String::new(),
+    letters: |_| {
+        let mut letters = SHORT_SHEETS.map(|sheet| format!("open {sheet}")).to_vec();
+        letters.push("begin".to_string());
+        letters.extend([0, 14, 30].map(|places| lend("take", places)));
+        letters
+    },
+    end: |_| format!("{}\n{}\n", lend("take", 30), lend("write", 30)),
+};
 
-pub const SAVE_LETTERS: u64 = 6;
-
-/// Every list of exactly so many of these, each on a fresh frame; at the end what is left is taken, and the library written.
-pub fn saves(length: u32) -> impl Iterator<Item = Vec<u8>> {
-    (0..SAVE_LETTERS.pow(length)).map(move |list| {
-        let mut text = String::new();
-        spell(&mut text, list, length, SAVE_LETTERS, save_letter);
-        text.push_str(&format!("{}\n{}\n", lend("take", 30), lend("write", 30)));
-        text.into_bytes()
-    })
-}
+/// At the end there are turns until no head waits: five grants is the most that these calls can leave. Then head 11 is served, so that the
+/// next list finds the rota as on a fresh frame.
+const ROTA: Alphabet = Alphabet {
+    calls: "tellings and turns",
+    together: 12,
+    start: |_| String::new(),
+    letters: |_| {
+        [
+            "tell 0 1",
+            "tell 0 300",
+            "tell 5 257",
+            "tell 11 1",
+            "tell 12 1",
+            "tell 0 0",
+            "turn",
+        ]
+        .map(String::from)
+        .to_vec()
+    },
+    end: |_| format!("{}tell 11 1\nturn\n", "turn\n".repeat(6)),
+};
 
 /// Every change of one byte of a valid sheet of each kind byte, of one with all seven kinds, of those in Exact at -0.497, -0.25 and -0.0, and
 /// of sheets of edition 2: every value at every place, every truncation, and every byte behind. Each goes through check and lookup by both
@@ -1037,6 +1151,23 @@ pub fn sample(seed: u64) -> Vec<u8> {
         text.push_str(line);
         text.push('\n');
     }
+    text.push_str(
+        "\n# The rota: 1, 13 and 14 in their order; the heads in the ring's, whenever they were told; other calls between.\n\
+         turn\n\
+         tell 12 0\ntell 12 1\ntell 0 65536\ntell 4 0\ntell 4 300\ntell 4 0\ntell 4 300\n\
+         tell 11 257\ntell 0 1\n\
+         turn\nrun 0 plain:low 3f800000 00000000\n\
+         turn\n\
+         tell 2 5\nload 4 0\nrun 4 plain:low 3f800000 00000000\nmark 11\nback 11 0\ndrop 11 0\nrest 2\nbegin\ntake ee\n\
+         turn\n\
+         open 00\nopen 0100010000003f0000000000000000\ntake eeeeeeeeeeeeeeeeeeeeeeeeeeee\n\
+         tell 0 512\n\
+         turn\nturn\nturn\nturn\nturn\nturn\n\
+         tell 0 1\nturn\nturn\n\
+         # The longest wait.\n\
+         tell 3 65535\n",
+    );
+    text.push_str(&"turn\n".repeat(257));
     text.push_str("\n# Exact below 0.\n");
     for kind in [2u8, 3, 5] {
         for f in MIRRORED {

@@ -6,5 +6,6 @@ pub mod filters;
 pub mod histories;
 pub mod lists;
 pub mod numbers;
+pub mod rota;
 pub mod sheets;
 pub mod text;

@@ -1,6 +1,7 @@
 //! Kept lists, and the calls in their terms.
 
 use crate::filters::{has_form, loaded, type_of, Filter, Form};
+use crate::rota::Rota;
 use crate::sheets;
 use std::rc::Rc;
 
@@ -152,12 +153,13 @@ struct Head {
     row: Vec<List>,
 }
 
-/// The sheet of the last accepted open, none before any; what is left to take of a save (02 h), nothing where none is unfinished; and twelve
-/// heads.
+/// The sheet of the last accepted open, none before any; what is left to take of a save (02 h), nothing where none is unfinished; the rota,
+/// which no other part concerns; and twelve heads.
 #[derive(Default)]
 pub struct Frame {
     library: Vec<u8>,
     left: Vec<u8>,
+    pub rota: Rota,
     heads: [Head; 12],
     replay: bool,
 }

@@ -8,6 +8,7 @@ use crate::sheets;
 pub const LONGEST_LINE: usize = 65_535;
 const MOST_SAMPLES: usize = 1_024;
 const MOST_BYTES: usize = 4_096;
+const MOST_TOLD: u64 = 65_535;
 
 fn number(word: &[u8]) -> Option<u64> {
     if word.is_empty() || word.len() > 20 || !word.iter().all(u8::is_ascii_digit) {
@@ -148,13 +149,27 @@ pub fn answer(frame: &mut Frame, line: &[u8], counts: &mut Counts, to: &mut Stri
     to.push('\n');
 }
 
-fn numbered(name: &str, number: u8, counts: &mut Counts, to: &mut String) {
+fn named(name: &str, counts: &mut Counts, to: &mut String) {
     counts.add("calls", 1);
     counts.add(name, 1);
+    to.push_str(name);
+}
+
+fn numbered(name: &str, number: u8, counts: &mut Counts, to: &mut String) {
+    named(name, counts, to);
     if number != 0 {
         counts.add(&format!("refusal {number}"), 1);
     }
-    to.push_str(&format!("{name} {number}"));
+    to.push_str(&format!(" {number}"));
+}
+
+// Counts that a call was accepted, or by which number it was refused.
+fn judged(name: &str, number: u8, counts: &mut Counts) {
+    if number == 0 {
+        counts.add(&format!("{name} accepted"), 1);
+    } else {
+        counts.add(&format!("{name} refused {number}"), 1);
+    }
 }
 
 fn run(
@@ -218,9 +233,7 @@ fn put_written(
 }
 
 fn put_part(name: &str, part: &[u8], counts: &mut Counts, to: &mut String) {
-    counts.add("calls", 1);
-    counts.add(name, 1);
-    to.push_str(name);
+    named(name, counts, to);
     to.push(' ');
     put_bytes(part, to);
 }
@@ -320,12 +333,10 @@ fn call(frame: &mut Frame, line: &[u8], counts: &mut Counts, to: &mut String) ->
         }
         [b"begin"] => {
             let number = frame.begin();
+            judged("begin", number, counts);
             if number == 0 {
-                counts.add("begin accepted", 1);
                 let edition = sheets::edition(frame.left());
                 counts.add(&format!("begin of edition {edition}"), 1);
-            } else {
-                counts.add(&format!("begin refused {number}"), 1);
             }
             numbered("begin", number, counts, to);
         }
@@ -336,18 +347,50 @@ fn call(frame: &mut Frame, line: &[u8], counts: &mut Counts, to: &mut String) ->
             if let Ok(length) = answer {
                 counts.add("take accepted", 1);
                 counts.add("bytes taken", length as u64);
-                for (what, is) in [
+                counts.add_each(&[
                     ("take of no places", out.is_empty()),
                     ("take of the last byte", frame.left().is_empty()),
                     ("take with places left over", length < out.len()),
                     ("take of a sheet that is not open", another && length > 0),
-                ] {
-                    if is {
-                        counts.add(what, 1);
-                    }
-                }
+                ]);
             }
             put_written("take", answer, &out, counts, to);
+        }
+        [b"tell", head, samples] => {
+            let head = number(head)?;
+            let samples = number(samples).filter(|n| *n <= MOST_TOLD)?;
+            let number = frame.rota.tell(head, samples);
+            judged("tell", number, counts);
+            if samples == 0 && number != 14 {
+                counts.add(&format!("tell refused {number} before 14"), 1);
+            }
+            numbered("tell", number, counts, to);
+        }
+        [b"turn"] => {
+            let (last, waiting) = (frame.rota.served(), frame.rota.waiting().count());
+            named("turn", counts, to);
+            match frame.rota.turn() {
+                Some((head, granted)) => {
+                    let waits = frame.rota.waiting().any(|h| h == head);
+                    counts.add("turn granted", 1);
+                    counts.add("samples granted", granted);
+                    counts.add_each(&[
+                        ("turn of 256 samples", granted == 256),
+                        ("turn of fewer samples", granted < 256),
+                        ("turn of the last 256 samples", granted == 256 && !waits),
+                        ("turn that ends a wait", !waits),
+                        ("turn of the head last served", last == Some(head)),
+                        ("turn past head 11", last.is_some_and(|last| head < last)),
+                        ("turn while others wait", waiting > 1),
+                        ("turn while all heads wait", waiting == 12),
+                    ]);
+                    to.push_str(&format!(" {head} {granted}"));
+                }
+                None => {
+                    counts.add("turn none", 1);
+                    to.push_str(" none");
+                }
+            }
         }
         [b"convert", edition, sheet, out] => {
             let wanted = match edition {
@@ -357,13 +400,10 @@ fn call(frame: &mut Frame, line: &[u8], counts: &mut Counts, to: &mut String) ->
             };
             let (sheet, mut out) = (bytes(sheet)?, bytes(out)?);
             let answer = sheets::convert(wanted, &sheet, &mut out);
-            match answer {
-                Ok(_) => {
-                    let from = sheets::edition(&sheet);
-                    counts.add("convert accepted", 1);
-                    counts.add(&format!("convert of edition {from} to {wanted}"), 1);
-                }
-                Err(refusal) => counts.add(&format!("convert refused {refusal}"), 1),
+            judged("convert", answer.err().unwrap_or(0), counts);
+            if answer.is_ok() {
+                let from = sheets::edition(&sheet);
+                counts.add(&format!("convert of edition {from} to {wanted}"), 1);
             }
             put_written("convert", answer, &out, counts, to);
         }

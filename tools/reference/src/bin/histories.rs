@@ -1,10 +1,9 @@
 //! Gives histories to frame_calls and to the reference, and compares what they write byte for byte.
-//! `histories random --seed N --calls N --lines N`, `histories short --length N`, `histories saves --length N`, `histories sheets`,
-//! `histories sample`.
+//! `histories random --seed N --calls N --lines N`, `histories short|saves|rota --length N`, `histories sheets`, `histories sample`.
 //! A history gets a program of its own; the reference gets many, with `# fresh frame` between.
 
 use reference::counts::Counts;
-use reference::histories::{self, Writer};
+use reference::histories::{self, Alphabet, Writer};
 use reference::text::is_silent;
 use std::fs::{self, File};
 use std::process::{exit, Command, Stdio};
@@ -15,7 +14,7 @@ const REFERENCE: &str = "target/cargo/release/reference";
 const FOLDER: &str = "target/histories";
 
 /// The numbers of the refusals that there are, but for 18: a text that brings a head there has 69 GB. The program `count_limit` runs to it.
-const REFUSALS: [u8; 15] = [1, 2, 3, 4, 5, 6, 7, 8, 9, 10, 11, 12, 15, 16, 17];
+const REFUSALS: [u8; 17] = [1, 2, 3, 4, 5, 6, 7, 8, 9, 10, 11, 12, 13, 14, 15, 16, 17];
 
 /// How often each thing has to have been tried in a random run.
 const LEAST: u64 = 50;
@@ -208,6 +207,14 @@ fn tried_enough(counts: &Counts) -> bool {
         "begin refused 16",
         "take of no places",
         "take with places left over",
+        "tell refused 1",
+        "tell refused 1 before 14",
+        "tell refused 13",
+        "tell refused 13 before 14",
+        "tell refused 14",
+        "turn none",
+        "turn of the last 256 samples",
+        "turn while all heads wait",
     ] {
         wanted.push(call.to_string());
     }
@@ -229,6 +236,14 @@ fn tried_enough(counts: &Counts) -> bool {
         "take accepted",
         "take of the last byte",
         "take of a sheet that is not open",
+        "tell accepted",
+        "turn granted",
+        "turn of 256 samples",
+        "turn of fewer samples",
+        "turn that ends a wait",
+        "turn of the head last served",
+        "turn past head 11",
+        "turn while others wait",
     ];
     let mut enough = true;
     for (what, least) in wanted
@@ -301,6 +316,22 @@ fn summary(counts: &Counts) {
         counts.of("refusal 17"),
     );
     println!(
+        "rota: tellings {}, refused with 1 {}, with 13 {}, with 14 {}; turns {}, of 256 samples {}, of the head last served {}, past head 11 {}, while others wait {}, while all wait {}, that end a wait {}, of none {}; samples granted {}",
+        counts.of("tell accepted"),
+        counts.of("tell refused 1"),
+        counts.of("tell refused 13"),
+        counts.of("tell refused 14"),
+        counts.of("turn granted"),
+        counts.of("turn of 256 samples"),
+        counts.of("turn of the head last served"),
+        counts.of("turn past head 11"),
+        counts.of("turn while others wait"),
+        counts.of("turn while all heads wait"),
+        counts.of("turn that ends a wait"),
+        counts.of("turn none"),
+        counts.of("samples granted"),
+    );
+    println!(
         "conversions: edition 1 to 2 {}, 2 to 1 {}, copies {}; refused with 12 {}, with 15 {}, as no sheet {}",
         counts.of("convert of edition 1 to 2"),
         counts.of("convert of edition 2 to 1"),
@@ -311,14 +342,6 @@ fn summary(counts: &Counts) {
             .map(|n| counts.of(&format!("convert refused {n}")))
             .iter()
             .sum::<u64>(),
-    );
-}
-
-fn say_every(letters: u64, length: u32, calls: &str, start: Instant) {
-    println!(
-        "histories: all {} lists of {length} {calls}, {:.1} s: no difference",
-        letters.pow(length),
-        start.elapsed().as_secs_f64()
     );
 }
 
@@ -362,21 +385,6 @@ fn main() {
                 exit(1);
             }
         }
-        Some("short") => {
-            let length = value(&arguments, "--length", 5) as u32;
-            comparison.all(histories::short(length), 500);
-            say_every(histories::LETTERS, length, "calls", start);
-        }
-        Some("saves") => {
-            let length = value(&arguments, "--length", 5) as u32;
-            comparison.all(histories::saves(length), 500);
-            say_every(
-                histories::SAVE_LETTERS,
-                length,
-                "opens, begins and takes",
-                start,
-            );
-        }
         Some("sheets") => {
             comparison.all(histories::sheet_changes(), 8);
             println!(
@@ -392,9 +400,19 @@ fn main() {
                 .write_all(&histories::sample(value(&arguments, "--seed", 7)))
                 .expect("standard output");
         }
-        _ => {
-            eprintln!("histories: random, short, saves, sheets or sample");
-            exit(2);
+        other => {
+            let Some(alphabet) = other.and_then(Alphabet::named) else {
+                eprintln!("histories: random, short, saves, rota, sheets or sample");
+                exit(2);
+            };
+            let length = value(&arguments, "--length", 5) as u32;
+            comparison.all(alphabet.histories(length), 500);
+            println!(
+                "histories: all {} lists of {length} {}, {:.1} s: no difference",
+                alphabet.lists(length),
+                alphabet.calls,
+                start.elapsed().as_secs_f64()
+            );
         }
     }
 }
