@@ -2,7 +2,7 @@
 use Rattle.std.specs.Prelude.{ℕ, List, [], ◌∷◌, Option, codes}
 use Rattle.form_text.specs.Name.{look_up}
 use Rattle.call_text.specs.declared.keyword.Keyword.{Keyword}
-use Rattle.call_text.specs.declared.keyword.Keyword.TheVariants.{Open, Load, Run, Two, Rest, Mark, Back, Drop, Write, Check, Lookup, Head, Check1, Lookup1, Convert, Count, Begin, Take}
+use Rattle.call_text.specs.declared.keyword.Keyword.TheVariants.{Open, Load, Run, Two, Rest, Mark, Back, Drop, Write, Check, Lookup, Head, Check1, Lookup1, Convert, Count, Begin, Take, Tell, Turn}
 
 abbrev pub keywords : List (List ℕ × Keyword)
 keywords =
@@ -24,6 +24,8 @@ keywords =
     ∷ (codes "count", Count)
     ∷ (codes "begin", Begin)
     ∷ (codes "take", Take)
+    ∷ (codes "tell", Tell)
+    ∷ (codes "turn", Turn)
     ∷ []
 
 abbrev pub keyword_of : List ℕ → Option Keyword

@@ -1,5 +1,5 @@
 -- A whole line of the text of calls.
-use Rattle.std.specs.Prelude.{ℕ, cond, List, [], ◌∷◌, Option, Some, None, Result, Ok, Err, eqb, ltb, length, get_or, option_map}
+use Rattle.std.specs.Prelude.{ℕ, cond, List, [], ◌∷◌, Option, Some, None, Result, Ok, Err, eqb, ltb, length, get_or, option_map, option_and_then}
 use Rattle.std.proofs.Common.{Bor}
 use Rattle.digits.specs.Decimal.{number_of}
 use Rattle.form_text.specs.Field.{fields_of, of_two, of_three, of_four, of_five}
@@ -10,7 +10,7 @@ use Rattle.call_text.specs.Keyword.{keyword_of}
 use Rattle.call_text.specs.declared.keyword.Keyword.{Keyword}
 use Rattle.call_text.specs.declared.keyword.Keyword.TheVariants as keyword
 use Rattle.call_text.specs.declared.line.Call.{Call}
-use Rattle.call_text.specs.declared.line.Call.TheVariants.{Open, Load, Run, Two, Rest, Mark, Back, Drop, Write, Check, Lookup, Head, Check1, Lookup1, Convert, Count, Begin, Take}
+use Rattle.call_text.specs.declared.line.Call.TheVariants.{Open, Load, Run, Two, Rest, Mark, Back, Drop, Write, Check, Lookup, Head, Check1, Lookup1, Convert, Count, Begin, Take, Tell, Turn}
 use Rattle.call_text.specs.declared.line.BadLine.{BadLine}
 use Rattle.call_text.specs.declared.line.BadLine.TheVariants.{NoCall, Words}
 
@@ -18,10 +18,18 @@ use Rattle.call_text.specs.declared.line.BadLine.TheVariants.{NoCall, Words}
 abbrev pub CallOf : Type 0
 CallOf = Call (List ℕ)
 
--- not a word
-abbrev pub begin_call : List (List ℕ) → Option CallOf
-begin_call [] = Some Begin
-begin_call _ = None
+-- n, unless it takes more than 16 bits
+abbrev pub small : ℕ → Option ℕ
+small n = cond (ltb 65535 n) None (Some n)
+
+-- NUMBER, at most 65535
+abbrev pub small_number : List ℕ → Option ℕ
+small_number s = option_and_then small (number_of s)
+
+-- not a word: the keyword alone is the call
+abbrev pub bare_call : CallOf → List (List ℕ) → Option CallOf
+bare_call call [] = Some call
+bare_call call _ = None
 
 -- HEAD
 abbrev pub one_number : List (List ℕ) → Option ℕ
@@ -32,6 +40,11 @@ one_number _ = None
 abbrev pub two_numbers : List (List ℕ) → Option (ℕ × ℕ)
 two_numbers (h ∷ n ∷ []) = of_two (λ h n. (h, n)) (number_of h) (number_of n)
 two_numbers _ = None
+
+-- HEAD NUMBER, the second at most 65535
+abbrev pub tell_call : List (List ℕ) → Option CallOf
+tell_call (h ∷ n ∷ []) = of_two Tell (number_of h) (small_number n)
+tell_call _ = None
 
 -- BYTES
 abbrev pub one_buffer : List (List ℕ) → Option (List ℕ)
@@ -79,8 +92,10 @@ call_for keyword.Check1 fields = option_map (paired Check1) (buffer_and_number f
 call_for keyword.Lookup1 fields = option_map (paired Lookup1) (buffer_and_number fields)
 call_for keyword.Convert fields = convert_call fields
 call_for keyword.Count fields = option_map Count (one_number fields)
-call_for keyword.Begin fields = begin_call fields
+call_for keyword.Begin fields = bare_call Begin fields
 call_for keyword.Take fields = option_map Take (one_buffer fields)
+call_for keyword.Tell fields = tell_call fields
+call_for keyword.Turn fields = bare_call Turn fields
 
 -- an answer of `call_of`: none for a silent line
 abbrev pub Answer : Type 0 → Type 0
@@ -122,6 +137,8 @@ text_call (Convert v s o) = Convert v s.now o.now
 text_call (Count h) = Count h
 text_call Begin = Begin
 text_call (Take o) = Take o.now
+text_call (Tell h n) = Tell h n
+text_call Turn = Turn
 
 abbrev pub text_answer : Answer (Bor (List ℕ)) → Answer (List ℕ)
 text_answer (Ok call) = Ok (option_map text_call call)

@@ -24,6 +24,8 @@ pub enum Keyword {
     Count,
     Begin,
     Take,
+    Tell,
+    Turn,
 }
 
 // A match over the text of a line, whose first word names the call.
@@ -49,6 +51,8 @@ pub fn keyword_of(s: &[u8]) -> Option<Keyword>
         b"count" => Some(Keyword::Count),
         b"begin" => Some(Keyword::Begin),
         b"take" => Some(Keyword::Take),
+        b"tell" => Some(Keyword::Tell),
+        b"turn" => Some(Keyword::Turn),
         _ => None,
     }
 }

@@ -2,7 +2,7 @@
 
 ghost use Rattle.std.specs.Prelude.{◌≡◌, option_map, option_copied};
 ghost use Rattle.form_text.specs.Field.{fields_left};
-ghost use Rattle.call_text.specs.Line.{one_number, two_numbers, one_buffer, buffer_and_number, begin_call, convert_call, run_call, two_call, call_for, call_of, text_pair, text_call, text_answer};
+ghost use Rattle.call_text.specs.Line.{small_number, one_number, two_numbers, one_buffer, buffer_and_number, bare_call, tell_call, convert_call, run_call, two_call, call_for, call_of, text_pair, text_call, text_answer};
 
 use crate::buffer::units_field;
 use crate::edition::edition_of;
@@ -69,6 +69,11 @@ pub enum Call<B> {
     Count(usize),
     Begin,
     Take(B),
+    Tell {
+        head: usize,
+        samples: u16,
+    },
+    Turn,
 }
 
 // Why a line is no call.
@@ -80,14 +85,21 @@ pub enum BadLine {
     Words,
 }
 
+// A NUMBER, if 16 bits hold it. A greater one is not cut to what they hold: its line is bad.
+fn small_number(s: &[u8]) -> Option<u16>
+    ensures { result ≡ small_number s.now }
+{
+    u16::try_from(number_of(s)?).ok()
+}
+
 // Each reader below has words of its own behind the keyword: one for any two words would be told how each is read, and be no shorter.
 
-// Not a word.
-fn begin_call<'a>(fields: Fields<'a>) -> Option<Call<&'a [u8]>>
-    ensures { option_map text_call result ≡ begin_call (fields_left fields.entry) }
+// Not a word: the keyword alone is the call.
+fn bare_call<'a>(call: Call<&'a [u8]>, fields: Fields<'a>) -> Option<Call<&'a [u8]>>
+    ensures { option_map text_call result ≡ bare_call (text_call call.entry) (fields_left fields.entry) }
 {
     fields.end()?;
-    Some(Call::Begin)
+    Some(call)
 }
 
 // HEAD
@@ -103,6 +115,17 @@ fn two_numbers(fields: Fields<'_>) -> Option<(usize, usize)>
 {
     let (head, n) = fields.two()?;
     Some((number_of(head)?, number_of(n)?))
+}
+
+// HEAD NUMBER, of which the second has 16 bits
+fn tell_call<'a>(fields: Fields<'a>) -> Option<Call<&'a [u8]>>
+    ensures { option_map text_call result ≡ tell_call (fields_left fields.entry) }
+{
+    let (head, samples) = fields.two()?;
+    Some(Call::Tell {
+        head: number_of(head)?,
+        samples: small_number(samples)?,
+    })
 }
 
 // BYTES
@@ -203,8 +226,10 @@ fn call_for<'a>(keyword: Keyword, fields: Fields<'a>) -> Option<Call<&'a [u8]>>
         }
         Keyword::Convert => convert_call(fields)?,
         Keyword::Count => Call::Count(one_number(fields)?),
-        Keyword::Begin => begin_call(fields)?,
+        Keyword::Begin => bare_call(Call::Begin, fields)?,
         Keyword::Take => Call::Take(one_buffer(fields)?),
+        Keyword::Tell => tell_call(fields)?,
+        Keyword::Turn => bare_call(Call::Turn, fields)?,
     };
     Some(call)
 }

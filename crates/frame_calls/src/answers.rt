@@ -3,7 +3,7 @@
 use crate::faults;
 use crate::text::{
     Output, put_bad_line, put_counted, put_head, put_keyword, put_number, put_part, put_run,
-    put_two, put_written,
+    put_turn, put_two, put_written,
 };
 use arrayvec::ArrayVec;
 use call_text::{BadLine, Call};
@@ -145,6 +145,8 @@ fn of_call(call: Call<&[u8]>, frame: &mut Frame, out: &mut Output) {
         Call::Count(head) => put_counted(out, frame.count(head).map(|n| n as usize)),
         Call::Begin => put_number(out, frame.begin()),
         Call::Take(output) => take(frame, output, out),
+        Call::Tell { head, samples } => put_number(out, frame.tell(head, samples)),
+        Call::Turn => put_turn(out, frame.turn()),
     }
 }
 

@@ -5,6 +5,7 @@ use digits::{Unit, put};
 use filter_core::{Refusal, number_in};
 use form_text::Fields;
 use heads::Head;
+use rota::Grant;
 use std::io::Write;
 
 // The answers that wait and one more, the longest of which takes less than 32,768 bytes: so no writing to it fails.
@@ -62,6 +63,17 @@ pub(crate) fn put_head(out: &mut Output, answer: Result<&Head, Refusal>) {
     put_refusal(out, answer);
     if let Ok(head) = answer {
         crate::shown::put_head(out, head);
+    }
+    put(out, b"\n");
+}
+
+// The head whose turn it is and what it is granted; `none` where no head waits. A turn is never refused, so it has no number.
+pub(crate) fn put_turn(out: &mut Output, grant: Option<Grant>) {
+    match grant {
+        Some(Grant { head, samples }) => {
+            let _ = write!(out, " {head} {samples}");
+        }
+        None => put(out, b" none"),
     }
     put(out, b"\n");
 }

@@ -16,3 +16,12 @@ returns-in-lookup1 c = rw (text_from_reads c.args.s.now (codes "lookup1") (omega
 
 pub returns-in-convert : goal.returns-in-convert
 returns-in-convert c = rw (text_from_reads c.args.s.now (codes "convert") (omega arith) (search rules)) refl
+
+pub returns-in-write : goal.returns-in-write
+returns-in-write c = rw (text_from_reads c.args.s.now (codes "write") (omega arith) (search rules)) refl
+
+pub returns-in-check : goal.returns-in-check
+returns-in-check c = rw (text_from_reads c.args.s.now (codes "check") (omega arith) (search rules)) refl
+
+pub returns-in-begin : goal.returns-in-begin
+returns-in-begin c = rw (text_from_reads c.args.s.now (codes "begin") (omega arith) (search rules)) refl
