@@ -1,5 +1,5 @@
 -- A rota is the picture of its history. Assumes nothing.
-use Prim.Native.Nat.{ℕ, zero, suc, ◌-◌, ◌%◌, ◌<◌}
+use Prim.Native.Nat.{ℕ, zero, suc, ◌-◌, ◌<◌}
 use mathlib.Core.Path.{◌≡◌, refl, ap, ◌∙◌}
 use mathlib.Core.Bool.{Bool, true, false, cond}
 use mathlib.Core.List.{List, [], ◌∷◌}
@@ -55,7 +55,7 @@ module _ (l : List Event) where
       (set_table 12 (owed l) h n ∙ table_ext 12 (λ j. cond (eqb j h) n (owed l j)) (owed (told_event h n ∷ l)) (λ j d. owed_told h n j))
 
   told_done : (h n m : ℕ) → tell_done (rota_for l) h n m ≡ record { reply = told m; rota = rota_for (told_with l h n m) }
-  told_done h n zero = rw (left_told h n) refl
+  told_done h n zero = ap (λ r. record { reply = told 0; rota = r }) (left_told h n)
   told_done h n (suc m) = rw eqb-suc-zero refl
 
   -- ---- a turn

@@ -9,7 +9,6 @@ use lib.Dec.{eqb, ltb}
 use Rattle.std.specs.Prelude.{Option, None, Some, option_map}
 use Rattle.filter_core.specs.Rows.{◌then◌}
 use Rattle.filter_core.proofs.Rows.{then_zero}
-use Rattle.rota.specs.Ring.{first_after}
 use Rattle.rota.specs.Call.{Call, tell, turn}
 use Rattle.rota.specs.Rota.{head_refusal, waiting_refusal, samples_refusal, tell_refusal, share}
 use Rattle.rota.specs.History.{Event, told_event, grant_event, Account, granted_more, account, Waits, waits, owed, last_served, grant_for, next_grant, told_with, granted_with, advance, advance_all}
