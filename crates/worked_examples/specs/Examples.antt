@@ -1,6 +1,6 @@
 -- The worked examples of document 01, and those for requests of 02, a row each, about the definitions that the contracts cite.
 -- An output buffer is lent full of `kept`, so that the places that a form leaves alone show.
-use Rattle.std.specs.Prelude.{◌≡◌, ℕ, List, [], ◌∷◌, ◌++◌, length, replicate, Float}
+use Rattle.std.specs.Prelude.{◌≡◌, ℕ, List, [], ◌∷◌, ◌++◌, length, replicate, Float, None, Some}
 use Rattle.std.specs.Float.{nan}
 use Rattle.filter_core.specs.Arithmetic.{word, zeroᶠ, halfᶠ, oneᶠ, negᶠ}
 use Rattle.filter_core.specs.Buffer.{Filtered, buffer_after, each, puts, each_due, puts_due}
@@ -30,7 +30,8 @@ use Rattle.loads.specs.Load.{filter_of}
 use Rattle.runs.specs.declared.form.RunForm.TheVariants.{Plain, Stride}
 use Rattle.heads.specs.Act.{run, rest, mark, back, count, answered, marked, ran, counted}
 use Rattle.heads.specs.Snapshot.{count_refusal}
-use Rattle.frame.specs.Call.{Call, opening, loading, at, beginning, taking, plain, wrote, acted}
+use Rattle.rota.specs.Call.{tell, turn, told, granted}
+use Rattle.frame.specs.Call.{Call, opening, loading, at, beginning, taking, at_rota, Reply, plain, wrote, acted, of_rota}
 use Rattle.frame.specs.History.{no_histories, replies_to}
 
 -- ---- the numbers
@@ -154,6 +155,26 @@ slow_card =
     ∷ taking (replicate 12 0xee)
     ∷ taking (0xee ∷ [])
     ∷ []
+
+-- head 3 waits for more than a turn grants, and heads 11 and 0 are told meanwhile
+abbrev pub one_worker : List Call
+one_worker =
+    at_rota (tell 12 5)
+    ∷ at_rota (tell 3 0)
+    ∷ at_rota turn
+    ∷ at_rota (tell 3 300)
+    ∷ at_rota (tell 3 0)
+    ∷ at_rota (tell 11 1)
+    ∷ at_rota turn
+    ∷ at_rota (tell 0 2)
+    ∷ at_rota turn
+    ∷ at_rota turn
+    ∷ at_rota turn
+    ∷ at_rota turn
+    ∷ []
+
+abbrev pub grant_of : ℕ → ℕ → Reply
+grant_of h n = of_rota (granted (Some (record { head = h; samples = n })))
 
 -- ---- the table
 
@@ -286,4 +307,21 @@ pub record WorkedExamples : Type 0 where
       ∷ wrote 0 0 []
       ∷ wrote 0 10 (0x00 ∷ 0x3f ∷ replicate 8 0 ++ 0xee ∷ 0xee ∷ [])
       ∷ wrote 17 0 (0xee ∷ [])
+      ∷ []
+  -- document 02, b: 1, then 13, then 14; none where no head waits. Head 3 gets 256 of its 300, then come 11 and 0 in ring order, though told
+  -- later, and then head 3 its other 44
+  pub rota_replies :
+      replies_to no_histories one_worker
+      ≡ of_rota (told 1)
+      ∷ of_rota (told 14)
+      ∷ of_rota (granted None)
+      ∷ of_rota (told 0)
+      ∷ of_rota (told 13)
+      ∷ of_rota (told 0)
+      ∷ grant_of 3 256
+      ∷ of_rota (told 0)
+      ∷ grant_of 11 1
+      ∷ grant_of 0 2
+      ∷ grant_of 3 44
+      ∷ of_rota (granted None)
       ∷ []

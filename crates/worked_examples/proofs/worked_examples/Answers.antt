@@ -11,11 +11,13 @@ use Rattle.runs.specs.Run.{through, first_output}
 use Rattle.loads.specs.Load.{filter_for}
 use Rattle.heads.specs.History.{type_from, since_from, samples_in, snapshot_from}
 use Rattle.saves.specs.Save.{zero_bytes}
+use Rattle.rota.specs.Ring.{ring_after}
+use Rattle.rota.specs.History.{account, last_served}
 use Rattle.frame.specs.History.{replies_to, reply_to, advance, call_number}
 use Rattle.worked_examples.proofs.worked_examples.Goals as goal
 
 pub returns : goal.returns
-unfolding of_bits add sub mul div neg lt le is_nan first_refusal entry_refusal over table filter_for through first_output replies_to reply_to advance call_number zero_bytes type_from since_from samples_in snapshot_from svf_next svf_out svf_mixed naive_low naive_high naive_next naive_out modified_next modified_out crossover_next crossover_out
+unfolding of_bits add sub mul div neg lt le is_nan first_refusal entry_refusal over table filter_for through first_output replies_to reply_to advance call_number zero_bytes type_from since_from samples_in snapshot_from ring_after account last_served svf_next svf_out svf_mixed naive_low naive_high naive_next naive_out modified_next modified_out crossover_next crossover_out
 returns c =
     record {
       dc_blocker = refl;
@@ -59,4 +61,5 @@ returns c =
       count_last = refl;
       count_over = refl;
       save_replies = refl;
+      rota_replies = refl;
     }
