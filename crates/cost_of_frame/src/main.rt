@@ -69,7 +69,7 @@ fn float_at(sent: &[u8], at: usize) -> f32 {
 }
 
 // What is sent is a sheet, and a frequency and a mode that there are: the benchmark sends no other. A save is begun, so that the runs are
-// timed while one is unfinished.
+// timed while one is unfinished; and so is a head told to wait, before each of them.
 fn framed(sent: &[u8; END], length: NonZeroUsize) -> Side {
     let mut frame = Frame::fresh();
     let _ = frame.open(&sent[SHEET..SAMPLES]);
@@ -155,11 +155,13 @@ fn run_framed(
     out: &mut [f32],
 ) -> io::Result<()> {
     let _ = frame.load(0, 0);
+    let _ = frame.tell(1, 256);
     let before = rt.process_cpu_time();
     run_all(frame, mode, length, input, out);
     let after = rt.process_cpu_time();
-    // It takes nothing, and ends nothing: it keeps the compiler from leaving the save out.
+    // It takes nothing, and ends nothing: it keeps the compiler from leaving the save out, as the turn does with the rota.
     let _ = frame.take(&mut []);
+    let _ = frame.turn();
     answer(rt, nanoseconds(before, after), &fields(frame), out)
 }
 
