@@ -69,7 +69,7 @@ fn float_at(sent: &[u8], at: usize) -> f32 {
 }
 
 // What is sent is a sheet, and a frequency and a mode that there are: the benchmark sends no other. A save is begun, so that the runs are
-// timed while one is unfinished; and so is a head told to wait, before each of them.
+// timed while one is unfinished; before each of them a head is told to wait.
 fn framed(sent: &[u8; END], length: NonZeroUsize) -> Side {
     let mut frame = Frame::fresh();
     let _ = frame.open(&sent[SHEET..SAMPLES]);
