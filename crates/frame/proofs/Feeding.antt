@@ -7,14 +7,17 @@ use lib.Dec.{eqb, ltb, leb}
 use Rattle.sheets.specs.Sheet.{check_of}
 use Rattle.library.specs.Library.{count}
 use Rattle.rota.specs.Call as rota
-use Rattle.rota.specs.History.{Event, call_number as rota_number, advance as noted, advance_all as rota_history}
+use Rattle.rota.specs.Call.{turn, of_turn}
+use Rattle.rota.specs.History.{Event, call_number as rota_number, advance as rota_advance, advance_all as rota_history}
 use Rattle.rota.specs.Rota as rota_step
-use Rattle.rota.specs.Fair.{replies_from as rota_replies_from, rota_from, FairTo}
+use Rattle.rota.specs.Fair.{replies_from as rota_replies_from, rota_from, grant_in, FairTo}
+use Rattle.rota.specs.declared.Grant.{Grant}
+use Rattle.std.specs.Prelude.{Option, None}
 use Rattle.rota.specs.declared.Rota.{Rota}
 use Rattle.rota.proofs.Follows.{rota_follows}
 use Rattle.rota.proofs.Sound.{sound_none, sound_all}
-use Rattle.rota.proofs.Fairness.{fair_to}
-use Rattle.frame.specs.Call.{Call, opening, writing, loading, at, beginning, taking, at_rota}
+use Rattle.rota.proofs.Fairness.{fair, fair_to}
+use Rattle.frame.specs.Call.{Call, opening, writing, loading, at, beginning, taking, at_rota, Reply, of_rota}
 use Rattle.frame.specs.Calls.{fresh_frame, with_rota, Done, perform}
 use Rattle.frame.specs.History.{Histories, no_histories, call_number, grown, advance, advance_all}
 use Rattle.frame.specs.Demand.{replies_from, frame_after}
@@ -22,31 +25,32 @@ use Rattle.frame.specs.Without.{without, other_replies}
 use Rattle.frame.specs.Feeding.{is_tell_or_turn, rota_call, rota_calls, rota_reply, rota_replies, Feeding}
 use Rattle.frame.proofs.Picture.{cond_out}
 use Rattle.frame.proofs.Upholds.{after_calls}
-use Rattle.frame.proofs.Apart.{beside_rota, beside_events}
+use Rattle.frame.proofs.Apart.{Sort, begins, takes, feeds, neither, sort_of, beside_rota, beside_events}
 use Rattle.frame.proofs.Without.{beside, frame_beside, replies_beside}
 use Rattle.frame.specs.declared.Frame.{Frame}
 
 -- ---- beside another rota, the other calls do the same
 
-aside : (f : Frame) (r : Rota) (c : Call) → is_tell_or_turn c ≡ false → perform (with_rota f r) c ≡ record { reply = (perform f c).reply; frame = with_rota (perform f c).frame r }
+aside_by : (f : Frame) (r : Rota) {c : Call} → Sort c → is_tell_or_turn c ≡ false → perform (with_rota f r) c ≡ record { reply = (perform f c).reply; frame = with_rota (perform f c).frame r }
 unfolding perform
-aside f r (opening s) q = beside_rota f r (opening s) refl
-aside f r (writing out) q = beside_rota f r (writing out) refl
-aside f r (loading h e) q = beside_rota f r (loading h e) refl
-aside f r (at h a) q = beside_rota f r (at h a) refl
-aside f r beginning q = refl
-aside f r (taking out) q = refl
-aside f r (at_rota c) q = absurd (clash (sym q))
+aside_by f r begins q = refl
+aside_by f r (takes out) q = refl
+aside_by f r (feeds c) q = absurd (clash (sym q))
+aside_by f r (neither {c} s n m) q = beside_rota f r c s
+
+aside : (f : Frame) (r : Rota) (c : Call) → is_tell_or_turn c ≡ false → perform (with_rota f r) c ≡ record { reply = (perform f c).reply; frame = with_rota (perform f c).frame r }
+aside f r c = aside_by f r (sort_of c)
+
+-- a telling and a turn change the rota alone
+alone_by : (f : Frame) {c : Call} → Sort c → is_tell_or_turn c ≡ true → (perform f c).frame ≡ with_rota f (perform f c).frame.rota
+unfolding perform
+alone_by f begins q = absurd (clash q)
+alone_by f (takes out) q = absurd (clash q)
+alone_by f (feeds c) q = refl
+alone_by f (neither s n m) q = absurd (clash (sym m ∙ q))
 
 alone : (f : Frame) (c : Call) → is_tell_or_turn c ≡ true → (perform f c).frame ≡ with_rota f (perform f c).frame.rota
-unfolding perform
-alone f (opening s) q = absurd (clash q)
-alone f (writing out) q = absurd (clash q)
-alone f (loading h e) q = absurd (clash q)
-alone f (at h a) q = absurd (clash q)
-alone f beginning q = absurd (clash q)
-alone f (taking out) q = absurd (clash q)
-alone f (at_rota c) q = refl
+alone f c = alone_by f (sort_of c)
 
 others : (f : Frame) (c : Call) → is_tell_or_turn c ≡ false → (perform f c).frame.rota ≡ f.rota
 others f c q = ap (λ (d : Done). d.frame.rota) (aside f f.rota c q)
@@ -63,39 +67,34 @@ abbrev with_events : Histories → List Event → Histories
 with_events H l = record H { rota = l }
 
 module _ (H : Histories) where
-  histories_aside : (l : List Event) (c : Call) → is_tell_or_turn c ≡ false → advance (with_events H l) c ≡ with_events (advance H c) l
+  aside_in : (l : List Event) {c : Call} → Sort c → is_tell_or_turn c ≡ false → advance (with_events H l) c ≡ with_events (advance H c) l
   unfolding advance call_number
-  histories_aside l (opening s) q = beside_events H l (opening s) refl
-  histories_aside l (writing out) q = beside_events H l (writing out) refl
-  histories_aside l (loading h e) q = beside_events H l (loading h e) refl
-  histories_aside l (at h a) q = beside_events H l (at h a) refl
-  histories_aside l beginning q = cond_out (λ G. with_events G l) (eqb (call_number H beginning) 0) (grown H beginning) H
-  histories_aside l (taking out) q = cond_out (λ G. with_events G l) (eqb (call_number H (taking out)) 0) (grown H (taking out)) H
-  histories_aside l (at_rota c) q = absurd (clash (sym q))
+  aside_in l begins q = cond_out (λ G. with_events G l) (eqb (call_number H beginning) 0) (grown H beginning) H
+  aside_in l (takes out) q = cond_out (λ G. with_events G l) (eqb (call_number H (taking out)) 0) (grown H (taking out)) H
+  aside_in l (feeds c) q = absurd (clash (sym q))
+  aside_in l (neither {c} s n m) q = beside_events H l c s
 
   -- a call of the rota adds to the rota's history what the rota says
-  own_call : (c : rota.Call) → advance H (at_rota c) ≡ with_events H (noted H.rota c)
+  own_call : (c : rota.Call) → advance H (at_rota c) ≡ with_events H (rota_advance H.rota c)
   unfolding advance call_number
   own_call c = go (eqb (rota_number H.rota c) 0) refl
     where
-      go : (b : Bool) → eqb (rota_number H.rota c) 0 ≡ b → cond b (with_events H (noted H.rota c)) H ≡ with_events H (noted H.rota c)
+      go : (b : Bool) → eqb (rota_number H.rota c) 0 ≡ b → cond b (with_events H (rota_advance H.rota c)) H ≡ with_events H (rota_advance H.rota c)
       go true q = refl
       go false q = ap (with_events H) (sym (rota_follows.refused H.rota c (eqb-false _ _ q)).1)
 
-  histories_alone : (c : Call) → is_tell_or_turn c ≡ true → advance H c ≡ with_events H (advance H c).rota
-  histories_alone (opening s) q = absurd (clash q)
-  histories_alone (writing out) q = absurd (clash q)
-  histories_alone (loading h e) q = absurd (clash q)
-  histories_alone (at h a) q = absurd (clash q)
-  histories_alone beginning q = absurd (clash q)
-  histories_alone (taking out) q = absurd (clash q)
-  histories_alone (at_rota c) q = rw (own_call c) refl
+  alone_in : {c : Call} → Sort c → is_tell_or_turn c ≡ true → advance H c ≡ with_events H (advance H c).rota
+  alone_in begins q = absurd (clash q)
+  alone_in (takes out) q = absurd (clash q)
+  alone_in (feeds c) q = rw (own_call c) refl
+  alone_in (neither s n m) q = absurd (clash (sym m ∙ q))
 
 same_histories : (H : Histories) (cs : List Call) → advance_all H cs ≡ with_events (advance_all H (without is_tell_or_turn cs)) (advance_all H cs).rota
 unfolding advance_all
 same_histories H =
-    beside is_tell_or_turn advance advance_all with_events (λ H. H.rota) (λ H. refl) (λ H c cs. refl) (λ H l. refl) histories_aside
-    (λ H l c q. histories_alone (with_events H l) c q) H H.rota
+    beside is_tell_or_turn advance advance_all with_events (λ H. H.rota) (λ H. refl) (λ H c cs. refl) (λ H l. refl)
+    (λ H l c. aside_in H l (sort_of c))
+    (λ H l c. alone_in (with_events H l) (sort_of c)) H H.rota
 
 -- ---- the rota's own calls
 
@@ -147,7 +146,7 @@ own_first : (f : Frame) (H : Histories) (c : Call) (cs : List Call) → Kind f c
     → (advance_all H (c ∷ cs)).rota ≡ rota_history H.rota (rota_calls (c ∷ cs))
 unfolding advance_all rota_history rota_calls
 own_first f H _ cs (own c) e = e ∙ ap (λ (G : Histories). rota_history G.rota (rota_calls cs)) (own_call H c)
-own_first f H c cs (other q n m) e = rw n (e ∙ ap (λ (G : Histories). rota_history G.rota (rota_calls cs)) (histories_aside H H.rota c q))
+own_first f H c cs (other q n m) e = rw n (e ∙ ap (λ (G : Histories). rota_history G.rota (rota_calls cs)) (aside_in H H.rota (sort_of c) q))
 
 own_history : (H : Histories) (cs : List Call) → (advance_all H cs).rota ≡ rota_history H.rota (rota_calls cs)
 unfolding advance_all rota_history rota_calls
@@ -156,6 +155,15 @@ own_history H (c ∷ cs) = own_first fresh_frame H c cs (kind_of fresh_frame c) 
 
 fair_after : (cs : List Call) → FairTo (frame_after fresh_frame cs).rota (advance_all no_histories cs).rota
 fair_after cs = rw (after_calls cs, own_history no_histories cs) (fair_to (rota_history [] (rota_calls cs)) (sound_all [] (rota_calls cs) sound_none))
+
+-- what a reply of the rota's grants
+abbrev granted_in : Reply → Option Grant
+granted_in (of_rota r) = grant_in r
+granted_in _ = None
+
+idle : (f : Frame) → (perform f (at_rota turn)).reply ≡ of_rota (of_turn None) → (perform f (at_rota turn)).frame ≡ f
+unfolding perform
+idle f e = ap (with_rota f) (fair.idle f.rota (ap granted_in e))
 
 pub feeding : Feeding
 feeding =
@@ -172,5 +180,8 @@ feeding =
       rota = own_rota;
       answers = own_answers;
       own = own_history;
+      idle = idle;
       fair = fair_after;
+      soon = λ cs ds h w n. rw (own_answers (frame_after fresh_frame cs) ds) ((fair_after cs).soon h (rota_calls ds) w n);
+      once = λ cs ds h g i j w d. rw (own_answers (frame_after fresh_frame cs) ds) ((fair_after cs).once h g i j (rota_calls ds) w d);
     }

@@ -15,7 +15,7 @@ use Rattle.saves.proofs.Parts.{begin_refused, take_refused}
 use Rattle.rota.specs.Call as rota
 use Rattle.rota.proofs.Fairness.{fair}
 use Rattle.frame.specs.Call.{Call, opening, writing, loading, at, beginning, taking, at_rota, number_in, refused}
-use Rattle.frame.specs.Calls.{head_at, Done, refuse, settled, turned, perform}
+use Rattle.frame.specs.Calls.{head_at, Done, refuse, settled, rota_done, perform}
 use Rattle.frame.specs.Refused.{RefusedLeaves}
 use Rattle.frame.specs.declared.Frame.{Frame}
 
@@ -51,7 +51,7 @@ leaves_take f out z = let t = take_refused f.save out z in rw (t.save, t.output,
 
 leaves_rota : (f : Frame) (c : rota.Call) → Leaves f (at_rota c) (perform f (at_rota c))
 unfolding perform
-leaves_rota f c z = ap (turned f) (fair.refused f.rota c z)
+leaves_rota f c z = ap (rota_done f) (fair.refused f.rota c z)
 
 refused_number : (a : Act) → head_number (refused_act 1 a) ≡ 1
 refused_number (run form us ys) = refl

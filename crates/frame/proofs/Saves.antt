@@ -27,34 +27,34 @@ use Rattle.frame.specs.Saves.{is_begin_or_take, written_count, part_in, parts_fr
 use Rattle.frame.proofs.Sound.{Sound, sound_all, sound_none}
 use Rattle.frame.proofs.Picture.{cond_out, begun_save, frame_for}
 use Rattle.frame.proofs.Upholds.{after_calls}
-use Rattle.frame.proofs.Apart.{beside_save, beside_left}
+use Rattle.frame.proofs.Apart.{Sort, begins, takes, feeds, neither, sort_of, beside_save, beside_left}
 use Rattle.frame.proofs.Without.{beside, frame_beside, replies_beside}
 use Rattle.frame.specs.declared.Frame.{Frame}
 
 -- ---- beside another save, the other calls do the same
 
-aside : (f : Frame) (v : Save) (c : Call) → is_begin_or_take c ≡ false → perform (with_save f v) c ≡ record { reply = (perform f c).reply; frame = with_save (perform f c).frame v }
+aside_by : (f : Frame) (v : Save) {c : Call} → Sort c → is_begin_or_take c ≡ false → perform (with_save f v) c ≡ record { reply = (perform f c).reply; frame = with_save (perform f c).frame v }
 unfolding perform
-aside f v (opening s) q = beside_save f v (opening s) refl
-aside f v (writing out) q = beside_save f v (writing out) refl
-aside f v (loading h e) q = beside_save f v (loading h e) refl
-aside f v (at h a) q = beside_save f v (at h a) refl
-aside f v beginning q = absurd (clash (sym q))
-aside f v (taking out) q = absurd (clash (sym q))
-aside f v (at_rota c) q = refl
+aside_by f v begins q = absurd (clash (sym q))
+aside_by f v (takes out) q = absurd (clash (sym q))
+aside_by f v (feeds c) q = refl
+aside_by f v (neither {c} s n m) q = beside_save f v c s
+
+aside : (f : Frame) (v : Save) (c : Call) → is_begin_or_take c ≡ false → perform (with_save f v) c ≡ record { reply = (perform f c).reply; frame = with_save (perform f c).frame v }
+aside f v c = aside_by f v (sort_of c)
 
 -- ---- a list without its begins and takes
 
 -- a begin and a take change the save alone
-alone : (f : Frame) (c : Call) → is_begin_or_take c ≡ true → (perform f c).frame ≡ with_save f (perform f c).frame.save
+alone_by : (f : Frame) {c : Call} → Sort c → is_begin_or_take c ≡ true → (perform f c).frame ≡ with_save f (perform f c).frame.save
 unfolding perform
-alone f (opening s) q = absurd (clash q)
-alone f (writing out) q = absurd (clash q)
-alone f (loading h e) q = absurd (clash q)
-alone f (at h a) q = absurd (clash q)
-alone f beginning q = refl
-alone f (taking out) q = refl
-alone f (at_rota c) q = absurd (clash q)
+alone_by f begins q = refl
+alone_by f (takes out) q = refl
+alone_by f (feeds c) q = absurd (clash q)
+alone_by f (neither s n m) q = absurd (clash (sym n ∙ q))
+
+alone : (f : Frame) (c : Call) → is_begin_or_take c ≡ true → (perform f c).frame ≡ with_save f (perform f c).frame.save
+alone f c = alone_by f (sort_of c)
 
 same_frame : (f : Frame) (cs : List Call) → frame_after f cs ≡ with_save (frame_after f (without is_begin_or_take cs)) (frame_after f cs).save
 same_frame f = frame_beside is_begin_or_take with_save (λ f. f.save) (λ f v. refl) aside (λ f v c q. alone (with_save f v) c q) f f.save
@@ -69,35 +69,30 @@ abbrev with_bytes : Histories → List ℕ → Histories
 with_bytes H l = record H { left = l }
 
 module _ (H : Histories) where
-  histories_aside : (l : List ℕ) (c : Call) → is_begin_or_take c ≡ false → advance (with_bytes H l) c ≡ with_bytes (advance H c) l
+  aside_in : (l : List ℕ) {c : Call} → Sort c → is_begin_or_take c ≡ false → advance (with_bytes H l) c ≡ with_bytes (advance H c) l
   unfolding advance call_number
-  histories_aside l (opening s) q = beside_left H l (opening s) refl
-  histories_aside l (writing out) q = beside_left H l (writing out) refl
-  histories_aside l (loading h e) q = beside_left H l (loading h e) refl
-  histories_aside l (at h a) q = beside_left H l (at h a) refl
-  histories_aside l beginning q = absurd (clash (sym q))
-  histories_aside l (taking out) q = absurd (clash (sym q))
-  histories_aside l (at_rota c) q = cond_out (λ G. with_bytes G l) (eqb (call_number H (at_rota c)) 0) (grown H (at_rota c)) H
+  aside_in l begins q = absurd (clash (sym q))
+  aside_in l (takes out) q = absurd (clash (sym q))
+  aside_in l (feeds c) q = cond_out (λ G. with_bytes G l) (eqb (call_number H (at_rota c)) 0) (grown H (at_rota c)) H
+  aside_in l (neither {c} s n m) q = beside_left H l c s
 
   only_left : (b : Bool) (l : List ℕ) → cond b (with_bytes H l) H ≡ with_bytes H (cond b (with_bytes H l) H).left
   only_left true l = refl
   only_left false l = refl
 
-  histories_alone : (c : Call) → is_begin_or_take c ≡ true → advance H c ≡ with_bytes H (advance H c).left
+  alone_in : {c : Call} → Sort c → is_begin_or_take c ≡ true → advance H c ≡ with_bytes H (advance H c).left
   unfolding advance
-  histories_alone (opening s) q = absurd (clash q)
-  histories_alone (writing out) q = absurd (clash q)
-  histories_alone (loading h e) q = absurd (clash q)
-  histories_alone (at h a) q = absurd (clash q)
-  histories_alone beginning q = only_left (eqb (call_number H beginning) 0) H.sheet
-  histories_alone (taking out) q = only_left (eqb (call_number H (taking out)) 0) (drop (room 0 H.left out) H.left)
-  histories_alone (at_rota c) q = absurd (clash q)
+  alone_in begins q = only_left (eqb (call_number H beginning) 0) H.sheet
+  alone_in (takes out) q = only_left (eqb (call_number H (taking out)) 0) (drop (room 0 H.left out) H.left)
+  alone_in (feeds c) q = absurd (clash q)
+  alone_in (neither s n m) q = absurd (clash (sym n ∙ q))
 
 same_histories : (H : Histories) (cs : List Call) → advance_all H cs ≡ with_bytes (advance_all H (without is_begin_or_take cs)) (advance_all H cs).left
 unfolding advance_all
 same_histories H =
-    beside is_begin_or_take advance advance_all with_bytes (λ H. H.left) (λ H. refl) (λ H c cs. refl) (λ H l. refl) histories_aside
-    (λ H l c q. histories_alone (with_bytes H l) c q) H H.left
+    beside is_begin_or_take advance advance_all with_bytes (λ H. H.left) (λ H. refl) (λ H c cs. refl) (λ H l. refl)
+    (λ H l c. aside_in H l (sort_of c))
+    (λ H l c. alone_in (with_bytes H l) (sort_of c)) H H.left
 
 -- ---- the parts
 
@@ -216,7 +211,7 @@ saving =
       sheet = λ H cs. ap (λ (G : Histories). G.sheet) (same_histories H cs);
       alone = alone;
       others = others;
-      left = λ H c q. ap (λ (G : Histories). G.left) (histories_aside H H.left c q);
+      left = λ H c q. ap (λ (G : Histories). G.left) (aside_in H H.left (sort_of c) q);
       begun = begun;
       parts = parts_are;
       unfinished = unfinished;

@@ -10,7 +10,7 @@ use Rattle.std.proofs.lemmas.List.{length-map}
 use Rattle.std.proofs.lemmas.Option.{none-some}
 use Rattle.any_filter.specs.declared.Filter.{Filter}
 use Rattle.heads.proofs.Follows.{head_follows}
-use Rattle.rota.proofs.Follows.{left_is, rota_follows}
+use Rattle.rota.proofs.Follows.{rota_follows}
 use Rattle.frame.specs.Calls.{fresh_frame}
 use Rattle.frame.specs.Call.{Call, Reply}
 use Rattle.frame.specs.History.{Histories, no_histories, advance, advance_all, reply_to, replies_to}
@@ -56,8 +56,7 @@ upheld H cs S =
       marks = λ h l. rw (r.frame, the_head (advance_all H cs) h l);
       library = rw r.frame;
       left = rw r.frame;
-      owed = λ h l. rw r.frame (left_is (advance_all H cs).rota h l);
-      served = rw r.frame;
+      rota = rw r.frame;
     }
 
 fresh_picture : fresh_frame ≡ frame_for no_histories

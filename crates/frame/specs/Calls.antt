@@ -12,7 +12,7 @@ use Rattle.heads.specs.Head.{empty_head, holding, Turned, turn}
 use Rattle.heads.specs.declared.Head.{Head}
 use Rattle.saves.specs.Save.{no_save, left_of, begin_refusal, begin_of, take_refusal, take_length, take_of, taken_of}
 use Rattle.saves.specs.declared.Save.{Save}
-use Rattle.rota.specs.Call.{told, granted}
+use Rattle.rota.specs.Call.{of_tell, of_turn}
 use Rattle.rota.specs.Rota as rota
 use Rattle.rota.specs.declared.Grant.{Grant}
 use Rattle.rota.specs.declared.Rota.{Rota}
@@ -73,8 +73,8 @@ abbrev pub takes : Save → List ℕ → Reply
 takes v out = wrote (take_refusal v) (take_length v out) (taken_of v out)
 
 -- what the rota replies, and the frame with the rota that it leaves
-abbrev pub turned : Frame → rota.Done → Done
-turned f d = record { reply = of_rota d.reply; frame = with_rota f d.rota }
+abbrev pub rota_done : Frame → rota.Done → Done
+rota_done f d = record { reply = of_rota d.reply; frame = with_rota f d.rota }
 
 unfoldable pub perform : Frame → Call → Done
 perform f (opening s) = cond (eqb (check_of s) 0) (record { reply = plain 0; frame = with_library f (library.library_of s) }) (refuse f (opening s) (check_of s))
@@ -83,7 +83,7 @@ perform f (loading h e) = at_head f (loading h e) h (load_done f h e)
 perform f (at h a) = at_head f (at h a) h (settled f h (turn (head_at f h) a))
 perform f beginning = record { reply = plain (begin_refusal (length (left_of f.save)) f.library); frame = with_save f (begin_of f.save f.library) }
 perform f (taking out) = record { reply = takes f.save out; frame = with_save f (take_of f.save out) }
-perform f (at_rota c) = turned f (rota.perform f.rota c)
+perform f (at_rota c) = rota_done f (rota.perform f.rota c)
 
 -- ---- the answers of the code, the frame that it leaves, and the lent outputs as they are left. A refused call answers 0 beside its number
 
@@ -109,7 +109,7 @@ abbrev pub with_written : Result ℕ Refusal → Frame → List ℕ → Done
 with_written r f out = record { reply = wrote (number_in r) (result_unwrap_or r 0) out; frame = f }
 
 abbrev pub with_telling : {A : Type 0} → Result A Refusal → Frame → Done
-with_telling r f = record { reply = of_rota (told (number_in r)); frame = f }
+with_telling r f = record { reply = of_rota (of_tell (number_in r)); frame = f }
 
 abbrev pub with_grant : Option Grant → Frame → Done
-with_grant g f = record { reply = of_rota (granted g); frame = f }
+with_grant g f = record { reply = of_rota (of_turn g); frame = f }

@@ -2,8 +2,7 @@
 use Rattle.std.specs.Prelude.{ℕ, ◌<◌, ◌≡◌, List, [], ◌∷◌, length, map, None}
 use Rattle.library.specs.Library.{library_of}
 use Rattle.saves.specs.Save.{left_of}
-use Rattle.rota.specs.Rota.{left_at}
-use Rattle.rota.specs.History.{owed, last_served}
+use Rattle.rota.specs.Follows.{rota_for}
 use Rattle.frame.specs.Call.{Call, Reply}
 use Rattle.frame.specs.Calls.{fresh_frame, head_at, perform}
 use Rattle.heads.specs.History.{snapshot_of}
@@ -38,9 +37,8 @@ pub record Upheld (f : Frame) (H : Histories) (cs : List Call) : Type 0 where
   pub library : (frame_after f cs).library ≡ library_of (advance_all H cs).sheet
   -- the save has left what the calls leave to take (02 h)
   pub left : left_of (frame_after f cs).save ≡ (advance_all H cs).left
-  -- the rota has left for each head what it is owed, and goes on behind the head that was served last (02 b)
-  pub owed : (h : ℕ) → h < 12 → left_at (frame_after f cs).rota h ≡ owed (advance_all H cs).rota h
-  pub served : (frame_after f cs).rota.last ≡ last_served (advance_all H cs).rota
+  -- the rota is that of its calls: each head has left what it is owed, and it goes on behind the head that was served last (02 b)
+  pub rota : (frame_after f cs).rota ≡ rota_for (advance_all H cs).rota
 
 -- every list of calls, from a fresh frame: Demand3
 unfoldable pub Demand3 : Type 0

@@ -1,8 +1,10 @@
 -- What document 02, b says of the rota in a frame, over every frame and every list of calls.
-use Rattle.std.specs.Prelude.{Bool, true, false, ◌≡◌, List, [], ◌∷◌, ◌++◌}
+use Rattle.std.specs.Prelude.{ℕ, Bool, true, false, ◌<◌, ◌≤◌, ◌≡◌, List, [], ◌∷◌, ◌++◌, Option, None}
 use Rattle.rota.specs.Call as rota
-use Rattle.rota.specs.History.{advance_all as rota_history}
-use Rattle.rota.specs.Fair.{replies_from as rota_replies_from, rota_from, FairTo}
+use Rattle.rota.specs.Call.{turn, of_turn}
+use Rattle.rota.specs.History.{Waits, advance_all as rota_history}
+use Rattle.rota.specs.Fair.{replies_from as rota_replies_from, rota_from, turns_in, grants_in, Names, NamedWithin, FairTo}
+use Rattle.rota.specs.declared.Grant.{Grant}
 use Rattle.frame.specs.Call.{Call, at_rota, Reply, of_rota}
 use Rattle.frame.specs.Calls.{fresh_frame, with_rota, perform}
 use Rattle.frame.specs.History.{Histories, no_histories, advance_all}
@@ -34,6 +36,10 @@ unfoldable pub rota_replies : List Reply → List rota.Reply
 rota_replies [] = []
 rota_replies (r ∷ rs) = rota_reply r ++ rota_replies rs
 
+-- what the turns among the calls ds grant, behind the calls cs from a fresh frame
+abbrev pub grants_after : List Call → List Call → List (Option Grant)
+grants_after cs ds = grants_in (rota_replies (replies_from (frame_after fresh_frame cs) ds))
+
 -- ---- the statements
 
 pub record Feeding : Type 0 where
@@ -49,9 +55,15 @@ pub record Feeding : Type 0 where
   -- tell and turn change the rota alone, and no other call moves it
   pub alone : (f : Frame) (c : Call) → is_tell_or_turn c ≡ true → (perform f c).frame ≡ with_rota f (perform f c).frame.rota
   pub others : (f : Frame) (c : Call) → is_tell_or_turn c ≡ false → (perform f c).frame.rota ≡ f.rota
+  -- a turn that grants nothing changes nothing
+  pub idle : (f : Frame) → (perform f (at_rota turn)).reply ≡ of_rota (of_turn None) → (perform f (at_rota turn)).frame ≡ f
   -- the rota, what its calls reply and its history are those of its own calls alone
   pub rota : (f : Frame) (cs : List Call) → (frame_after f cs).rota ≡ rota_from f.rota (rota_calls cs)
   pub answers : (f : Frame) (cs : List Call) → rota_replies (replies_from f cs) ≡ rota_replies_from f.rota (rota_calls cs)
   pub own : (H : Histories) (cs : List Call) → (advance_all H cs).rota ≡ rota_history H.rota (rota_calls cs)
   -- so after any calls on a fresh frame it is fair to every head
   pub fair : (cs : List Call) → FairTo (frame_after fresh_frame cs).rota (advance_all no_histories cs).rota
+  -- and whatever is called then: a head that waits is named by one of the next 12 turns, and no other twice before it is
+  pub soon : (cs ds : List Call) (h : ℕ) → Waits (advance_all no_histories cs).rota h → 12 ≤ turns_in (rota_calls ds) → NamedWithin (grants_after cs ds) 12 h
+  pub once : (cs ds : List Call) (h g i j : ℕ) → Waits (advance_all no_histories cs).rota h → (g ≡ h → ⊥) → i < j
+      → Names (grants_after cs ds) i g → Names (grants_after cs ds) j g → NamedWithin (grants_after cs ds) j h

@@ -174,7 +174,7 @@ impl Frame {
         self.rota.tell(head, samples)
     }
 
-    // Grants samples to the next head that waits. The head runs them itself: a turn changes the rota alone.
+    // Grants samples to the next head that waits, or none where no head does. To run them is the caller's: a turn changes the rota alone.
     #[tactic(auto, unfolding(crate::specs::Calls::perform))]
     pub fn turn(&mut self) -> Option<Grant>
         ensures { with_grant result self.new ≡ perform self.old (at_rota turn) }

@@ -1,7 +1,7 @@
 -- What 02 b promises, gathered from the history that the calls make. Assumes nothing.
 use Prim.Native.Nat.{ℕ, ◌<◌, ◌≤◌}
 use mathlib.Core.Path.{◌≡◌, refl, ap, sym}
-use mathlib.Core.List.{List, [], ◌∷◌, ◌++◌}
+use mathlib.Core.List.{List, [], ◌∷◌}
 use native.Mathlib.Omega.{arith}
 use borrow.Author.Tests.{ne_eqb}
 use Rattle.std.specs.Prelude.{Option, None, Some, IfSome}
@@ -14,7 +14,7 @@ use Rattle.rota.specs.Follows.{rota_for}
 use Rattle.rota.specs.Fair.{replies_from, rota_from, history_from, grant_in, Due, FairTo, Fair}
 use Rattle.rota.specs.declared.Grant.{Grant}
 use Rattle.rota.specs.declared.Rota.{Rota}
-use Rattle.rota.proofs.Follows.{left_is, rota_follows}
+use Rattle.rota.proofs.Follows.{rota_follows}
 use Rattle.rota.proofs.Sound.{Sound, Turned, idle, grants, turned, sound_none, sound_all}
 use Rattle.rota.proofs.Turns.{way, turns_answered, soon, once}
 
@@ -41,11 +41,6 @@ module _ (r : Rota) where
       go None e = refl
       go (Some h) e = absurd (none-some _ (sym e))
 
-joined : (r : Rota) (cs ds : List Call) → rota_from r (cs ++ ds) ≡ rota_from (rota_from r cs) ds
-unfolding rota_from
-joined r [] ds = refl
-joined r (c ∷ cs) ds = joined (perform r c).rota cs ds
-
 -- ---- the calls from the picture of a history
 
 pub record Carried (l : List Event) (cs : List Call) : Type 0 where
@@ -67,11 +62,11 @@ carried l (c ∷ cs) =
 -- ---- what holds after a history that is sound, said of what its next turn grants
 
 module _ (l : List Event) where
-  nothing : {x : Option Grant} → Turned l x → x ≡ None → (h : ℕ) → Waits h l → ⊥
+  nothing : {x : Option Grant} → Turned l x → x ≡ None → (h : ℕ) → Waits l h → ⊥
   nothing (idle z) e = z
   nothing (grants d u) e = absurd (none-some _ (sym e))
 
-  nobody_waits : {x : Option Grant} → Turned l x → ((h : ℕ) → Waits h l → ⊥) → x ≡ None
+  nobody_waits : {x : Option Grant} → Turned l x → ((h : ℕ) → Waits l h → ⊥) → x ≡ None
   nobody_waits (idle z) n = refl
   nobody_waits (grants d u) n = absurd (n _ u.waits)
 
@@ -94,11 +89,10 @@ module _ (l : List Event) where
         soon =
             λ h cs w n.
             let few : places (last_served l) h ≤ 12 = omega arith in
-            let i = soon (way h l S w cs) (omega (arith, turns_answered (rota_for l) cs)) in (i.0, omega (arith, few, i.1), i.2);
+            let i = soon (way h l S w cs) (omega (arith, turns_answered l cs)) in (i.0, omega (arith, few, i.1), i.2);
         shares = rw (rota_follows.call l turn) (shares (turned l S));
         once = λ h g i j cs w d. once g d (way h l S w cs) i j;
         due = rw (rota_follows.call l turn) (due (turned l S));
-        left = left_is l;
       }
 
 pub fair : Fair
@@ -106,7 +100,8 @@ fair =
     record {
       after = λ cs. let r = carried [] cs in rw (rota_follows.fresh, r.rota, r.history) (fair_to (advance_all [] cs) (sound_all [] cs sound_none));
       replies = λ cs. rw rota_follows.fresh (carried [] cs).replies;
-      joined = joined;
+      history = λ cs. rw rota_follows.fresh (carried [] cs).history;
+      rota = λ cs. rw rota_follows.fresh (carried [] cs).rota;
       refused = refused_is;
       idle = idle_is;
     }

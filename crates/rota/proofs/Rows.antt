@@ -15,7 +15,7 @@ module _ {l : List Event} {h n : ℕ} where
   head_case : RotaCase l (tell h n) 1 → 12 ≤ h
   head_case (no_head m) = m
 
-  waiting_case : RotaCase l (tell h n) 13 → Waits h l
+  waiting_case : RotaCase l (tell h n) 13 → Waits l h
   waiting_case (waiting w) = w
 
   samples_case : RotaCase l (tell h n) 14 → n ≡ 0
@@ -27,7 +27,7 @@ rota_row l (tell h n) =
     (first_then (λ e. omega arith) (step_if 1 (ltb 11 h) (λ q. no_head (ltb-true 11 h q)) (λ q p. omega (arith, ltb-false 11 h q, head_case p)))
     (λ d.
     first_then (λ e. omega arith)
-    (step_if 13 (waits l h) (λ q. waiting (ltb-true _ _ q)) (λ q p. omega (arith, ltb-false (account h l).granted (account h l).told q, waiting_case p)))
+    (step_if 13 (waits l h) (λ q. waiting (ltb-true _ _ q)) (λ q p. omega (arith, ltb-false (account l h).granted (account l h).told q, waiting_case p)))
     (λ w. first_last (step_if 14 (eqb n 0) (λ q. no_samples (eqb-true n 0 q)) (λ q p. eqb-false n 0 q (samples_case p))))))
 rota_row l turn = exactly none
 

@@ -11,14 +11,14 @@ use Rattle.filter_core.specs.Rows.{◌then◌}
 use Rattle.filter_core.proofs.Rows.{then_zero}
 use Rattle.rota.specs.Call.{Call, tell, turn}
 use Rattle.rota.specs.Rota.{head_refusal, waiting_refusal, samples_refusal, tell_refusal, share}
-use Rattle.rota.specs.History.{Event, told_event, grant_event, Account, granted_more, account, Waits, waits, owed, last_served, grant_for, next_grant, told_with, granted_with, advance, advance_all}
+use Rattle.rota.specs.History.{Event, tell_event, grant_event, Account, granted_more, account, Waits, waits, owed, last_served, grant_for, next_grant, told_with, granted_with, advance, advance_all}
 use Rattle.rota.specs.Fair.{Due}
 use Rattle.rota.specs.declared.Grant.{Grant}
 use Rattle.rota.proofs.Ring.{Nearest, nobody, somebody, nearest}
 
 pub record Sound (l : List Event) : Type 0 where
-  pub most : (h : ℕ) → (account h l).granted ≤ (account h l).told
-  pub within : (h : ℕ) → Waits h l → h < 12
+  pub most : (h : ℕ) → (account l h).granted ≤ (account l h).told
+  pub within : (h : ℕ) → Waits l h → h < 12
   pub served : last_served l < 12
 
 either : (P : Account → Type 0) (t : Bool) (a b : Account) → (t ≡ true → P a) → P b → P (cond t a b)
@@ -31,17 +31,17 @@ record Fine (h : ℕ) (a : Account) : Type 0 where
   within : a.granted < a.told → h < 12
 
 module _ (l : List Event) (S : Sound l) where
-  fine : (h : ℕ) → Fine h (account h l)
+  fine : (h : ℕ) → Fine h (account l h)
   fine h = record { most = S.most h; within = S.within h }
 
-  sound_with : (e : Event) → ((h : ℕ) → Fine h (account h (e ∷ l))) → last_served (e ∷ l) < 12 → Sound (e ∷ l)
+  sound_with : (e : Event) → ((h : ℕ) → Fine h (account (e ∷ l) h)) → last_served (e ∷ l) < 12 → Sound (e ∷ l)
   sound_with e f s = record { most = λ h. (f h).most; within = λ h. (f h).within; served = s }
 
-  sound_told : (g n : ℕ) → g < 12 → Sound (told_event g n ∷ l)
+  sound_told : (g n : ℕ) → g < 12 → Sound (tell_event g n ∷ l)
   unfolding account last_served
   sound_told g n d =
-      sound_with (told_event g n)
-      (λ h. either (Fine h) (eqb h g) _ (account h l) (λ e. record { most = omega arith; within = λ w. omega (arith, eqb-true h g e) }) (fine h))
+      sound_with (tell_event g n)
+      (λ h. either (Fine h) (eqb h g) _ (account l h) (λ e. record { most = omega arith; within = λ w. omega (arith, eqb-true h g e) }) (fine h))
       S.served
 
   sound_granted : (g n : ℕ) → g < 12 → n ≤ owed l g → Sound (grant_event (record { head = g; samples = n }) ∷ l)
@@ -49,7 +49,7 @@ module _ (l : List Event) (S : Sound l) where
   sound_granted g n d m =
       sound_with (grant_event (record { head = g; samples = n }))
       (λ h.
-      either (Fine h) (eqb h g) (granted_more (account h l) n) (account h l)
+      either (Fine h) (eqb h g) (granted_more (account l h) n) (account l h)
       (λ e. let i = eqb-true h g e in record { most = omega (arith, S.most h, rw (← i) at m); within = λ w. omega (arith, i) })
       (fine h))
       (omega (arith, S.served))
@@ -73,7 +73,7 @@ accepts h b n e =
 
 -- what a turn grants: nothing where no head waits, and else what is due
 pub data Turned (l : List Event) : Option Grant → Type 0 where
-  idle : ((h : ℕ) → Waits h l → ⊥) → Turned l None
+  idle : ((h : ℕ) → Waits l h → ⊥) → Turned l None
   grants : {h : ℕ} → h < 12 → Due l (grant_for l h) → Turned l (Some (grant_for l h))
 
 module _ (l : List Event) (S : Sound l) where

@@ -12,12 +12,11 @@ use Rattle.std.specs.Prelude.{Option, None, Some}
 use Rattle.std.proofs.lemmas.Option.{none-some}
 use Rattle.rota.specs.Ring.{places}
 use Rattle.rota.specs.Call.{Call, tell, turn}
-use Rattle.rota.specs.Rota.{tell_refusal, share, perform}
+use Rattle.rota.specs.Rota.{tell_refusal, share}
 use Rattle.rota.specs.History.{Event, grant_event, account, Waits, waits, owed, last_served, grant_for, told_with, granted_with, advance}
 use Rattle.rota.specs.Follows.{rota_for}
-use Rattle.rota.specs.Fair.{turns_in, grants_from, Names, NamedWithin}
+use Rattle.rota.specs.Fair.{replies_from, turns_in, grants_in, grants_from, Names, NamedWithin}
 use Rattle.rota.specs.declared.Grant.{Grant}
-use Rattle.rota.specs.declared.Rota.{Rota}
 use Rattle.rota.proofs.Follows.{rota_follows}
 use Rattle.rota.proofs.Sound.{Sound, accepts, Turned, idle, grants, turned, sound_advance}
 
@@ -34,9 +33,9 @@ falls p x h lp lx lh le d = omega arith
 
 -- ---- one call
 
-module _ (l : List Event) (h : ℕ) (w : Waits h l) where
+module _ (l : List Event) (h : ℕ) (w : Waits l h) where
   -- a telling leaves a head that waits, and whom the next turn comes from
-  tell_waits : (g n m : ℕ) → tell_refusal g (waits l g) n ≡ m → Waits h (told_with l g n m)
+  tell_waits : (g n m : ℕ) → tell_refusal g (waits l g) n ≡ m → Waits (told_with l g n m) h
   unfolding account
   tell_waits g n zero e =
       let d : h ≡ g → ⊥ = λ i. clash (sym (accepts g (waits l g) n e).1 ∙ sym (ap (waits l) i) ∙ lt-ltb _ _ w) in
@@ -48,15 +47,15 @@ module _ (l : List Event) (h : ℕ) (w : Waits h l) where
   tell_last g n zero = refl
   tell_last g n (suc m) = refl
 
-  grant_waits : (x : Grant) → (h ≡ x.head → ⊥) → Waits h (grant_event x ∷ l)
+  grant_waits : (x : Grant) → (h ≡ x.head → ⊥) → Waits (grant_event x ∷ l) h
   unfolding account
   grant_waits x d = rw (ne_eqb h x.head d) w
 
 -- ---- a list of calls
 
 module _ (h : ℕ) where
-  way_turn : (l : List Event) → Sound l → Waits h l → (x : Option Grant) → Turned l x → (gs : List (Option Grant))
-      → (Waits h (granted_with l x) → Way h (last_served (granted_with l x)) gs)
+  way_turn : (l : List Event) → Sound l → Waits l h → (x : Option Grant) → Turned l x → (gs : List (Option Grant))
+      → (Waits (granted_with l x) h → Way h (last_served (granted_with l x)) gs)
       → Way h (last_served l) (x ∷ gs)
   unfolding last_served
   way_turn l S w None (idle z) gs on = absurd (z h w)
@@ -69,8 +68,8 @@ module _ (h : ℕ) where
           passed g (share (owed l g)) (falls (last_served l) g h S.served d (S.within h w) (u.nearest h w) (λ i. e (sym i)))
           (on (grant_waits l h w (grant_for l g) e))
 
-  pub way : (l : List Event) → Sound l → Waits h l → (ds : List Call) → Way h (last_served l) (grants_from (rota_for l) ds)
-  unfolding grants_from
+  pub way : (l : List Event) → Sound l → Waits l h → (ds : List Call) → Way h (last_served l) (grants_from (rota_for l) ds)
+  unfolding grants_in replies_from
   way l S w [] = ended
   way l S w (tell g n ∷ ds) =
       rw (rota_follows.call l (tell g n), ← tell_last l h w g n (tell_refusal g (waits l g) n))
@@ -79,11 +78,11 @@ module _ (h : ℕ) where
       rw (rota_follows.call l turn)
       (way_turn l S w _ (turned l S) _ (λ v. way (advance l turn) (sound_advance l S turn) v ds))
 
-pub turns_answered : (r : Rota) (ds : List Call) → length (grants_from r ds) ≡ turns_in ds
-unfolding grants_from turns_in
-turns_answered r [] = refl
-turns_answered r (tell h n ∷ ds) = turns_answered (perform r (tell h n)).rota ds
-turns_answered r (turn ∷ ds) = ap suc (turns_answered (perform r turn).rota ds)
+pub turns_answered : (l : List Event) (ds : List Call) → length (grants_from (rota_for l) ds) ≡ turns_in ds
+unfolding grants_in replies_from turns_in
+turns_answered l [] = refl
+turns_answered l (tell h n ∷ ds) = rw (rota_follows.call l (tell h n)) (turns_answered (advance l (tell h n)) ds)
+turns_answered l (turn ∷ ds) = rw (rota_follows.call l turn) (ap suc (turns_answered (advance l turn) ds))
 
 -- ---- what a way comes to
 

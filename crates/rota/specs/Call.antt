@@ -9,14 +9,14 @@ pub data Call : Type 0 where
 
 -- the number of a telling, which is 0 where it is accepted; what a turn grants, if it grants something
 pub data Reply : Type 0 where
-  told : ℕ → Reply
-  granted : Option Grant → Reply
+  of_tell : ℕ → Reply
+  of_turn : Option Grant → Reply
 
 abbrev pub number_in : Reply → ℕ
-number_in (told n) = n
-number_in (granted g) = 0
+number_in (of_tell n) = n
+number_in (of_turn g) = 0
 
 -- a refused telling answers its number; a turn is never refused
 abbrev pub refused : ℕ → Call → Reply
-refused n (tell h k) = told n
-refused n turn = granted None
+refused n (tell h k) = of_tell n
+refused n turn = of_turn None

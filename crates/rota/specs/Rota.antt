@@ -1,10 +1,10 @@
 -- What each call does to a rota (02 b), as its contract has it.
 use Rattle.std.specs.Prelude.{ℕ, Bool, ◌-◌, cond, not, eqb, ltb, min, get_or, set, replicate, Result, Option, None, Some}
-use Rattle.filter_core.specs.Refusal.{number_in as number_of, unless_refused}
+use Rattle.filter_core.specs.Refusal.{number_in, unless_refused}
 use Rattle.filter_core.specs.Rows.{◌then◌}
 use Rattle.filter_core.specs.declared.refusal.Refusal.{Refusal}
 use Rattle.rota.specs.Ring.{first_after}
-use Rattle.rota.specs.Call.{Call, tell, turn, Reply, told, granted}
+use Rattle.rota.specs.Call.{Call, tell, turn, Reply, of_tell, of_turn}
 use Rattle.rota.specs.declared.Grant.{Grant}
 use Rattle.rota.specs.declared.Rota.{Rota}
 
@@ -51,17 +51,17 @@ pub record Done : Type 0 where
   pub rota : Rota
 
 abbrev pub tell_done : Rota → ℕ → ℕ → ℕ → Done
-tell_done r h n refusal = record { reply = told refusal; rota = unless_refused refusal r (with_left r h n) }
+tell_done r h n refusal = record { reply = of_tell refusal; rota = unless_refused refusal r (with_left r h n) }
 
 -- of n samples that are left at most 256 are granted in a turn
 abbrev pub share : ℕ → ℕ
 share n = min n 256
 
 abbrev pub turn_done : Rota → Option ℕ → Done
-turn_done r None = record { reply = granted None; rota = r }
+turn_done r None = record { reply = of_turn None; rota = r }
 turn_done r (Some h) =
     record {
-      reply = granted (Some (record { head = h; samples = share (left_at r h) }));
+      reply = of_turn (Some (record { head = h; samples = share (left_at r h) }));
       rota = record (with_left r h (left_at r h - share (left_at r h))) { last = h };
     }
 
@@ -73,7 +73,7 @@ perform r turn = turn_done r (first_after r.last (waits_in r))
 -- ---- the answers of the code, and the rota that it leaves
 
 abbrev pub plainly : {A : Type 0} → Result A Refusal → Rota → Done
-plainly r v = record { reply = told (number_of r); rota = v }
+plainly r v = record { reply = of_tell (number_in r); rota = v }
 
 abbrev pub granting : Option Grant → Rota → Done
-granting g v = record { reply = granted g; rota = v }
+granting g v = record { reply = of_turn g; rota = v }

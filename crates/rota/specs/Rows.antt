@@ -8,7 +8,7 @@ pub data RotaCase (l : List Event) : Call → ℕ → Type 0 where
   -- 1: there are twelve heads
   no_head : {h n : ℕ} → 12 ≤ h → RotaCase l (tell h n) 1
   -- 13: the head was told and is not yet granted in full
-  waiting : {h n : ℕ} → Waits h l → RotaCase l (tell h n) 13
+  waiting : {h n : ℕ} → Waits l h → RotaCase l (tell h n) 13
   -- 14: told 0 samples
   no_samples : {h n : ℕ} → n ≡ 0 → RotaCase l (tell h n) 14
 

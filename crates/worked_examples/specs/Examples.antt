@@ -30,7 +30,7 @@ use Rattle.loads.specs.Load.{filter_of}
 use Rattle.runs.specs.declared.form.RunForm.TheVariants.{Plain, Stride}
 use Rattle.heads.specs.Act.{run, rest, mark, back, count, answered, marked, ran, counted}
 use Rattle.heads.specs.Snapshot.{count_refusal}
-use Rattle.rota.specs.Call.{tell, turn, told, granted}
+use Rattle.rota.specs.Call.{tell, turn, of_tell, of_turn}
 use Rattle.frame.specs.Call.{Call, opening, loading, at, beginning, taking, at_rota, Reply, plain, wrote, acted, of_rota}
 use Rattle.frame.specs.History.{no_histories, replies_to}
 
@@ -174,7 +174,7 @@ one_worker =
     ∷ []
 
 abbrev pub grant_of : ℕ → ℕ → Reply
-grant_of h n = of_rota (granted (Some (record { head = h; samples = n })))
+grant_of h n = of_rota (of_turn (Some (record { head = h; samples = n })))
 
 -- ---- the table
 
@@ -312,16 +312,16 @@ pub record WorkedExamples : Type 0 where
   -- later, and then head 3 its other 44
   pub rota_replies :
       replies_to no_histories one_worker
-      ≡ of_rota (told 1)
-      ∷ of_rota (told 14)
-      ∷ of_rota (granted None)
-      ∷ of_rota (told 0)
-      ∷ of_rota (told 13)
-      ∷ of_rota (told 0)
+      ≡ of_rota (of_tell 1)
+      ∷ of_rota (of_tell 14)
+      ∷ of_rota (of_turn None)
+      ∷ of_rota (of_tell 0)
+      ∷ of_rota (of_tell 13)
+      ∷ of_rota (of_tell 0)
       ∷ grant_of 3 256
-      ∷ of_rota (told 0)
+      ∷ of_rota (of_tell 0)
       ∷ grant_of 11 1
       ∷ grant_of 0 2
       ∷ grant_of 3 44
-      ∷ of_rota (granted None)
+      ∷ of_rota (of_turn None)
       ∷ []
