@@ -58,6 +58,10 @@ impl Rota {
         (0..HEADS).filter(|head| self.told[*head as usize].left() > 0)
     }
 
+    pub fn waits(&self, head: u64) -> bool {
+        self.waiting().any(|waiting| waiting == head)
+    }
+
     pub fn served(&self) -> Option<u64> {
         self.served
     }

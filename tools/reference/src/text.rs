@@ -142,9 +142,13 @@ pub fn answer(frame: &mut Frame, line: &[u8], counts: &mut Counts, to: &mut Stri
         to.push_str("? long line\n");
         return;
     }
+    let (refused, waits) = (counts.of("refused"), frame.rota.waiting().next().is_some());
     if call(frame, line, counts, to).is_none() {
         counts.add("bad line", 1);
         to.push_str("? bad line");
+    }
+    if waits && counts.of("refused") > refused && !line.starts_with(b"tell ") {
+        counts.add("call refused while a head waits", 1);
     }
     to.push('\n');
 }
@@ -158,6 +162,7 @@ fn named(name: &str, counts: &mut Counts, to: &mut String) {
 fn numbered(name: &str, number: u8, counts: &mut Counts, to: &mut String) {
     named(name, counts, to);
     if number != 0 {
+        counts.add("refused", 1);
         counts.add(&format!("refusal {number}"), 1);
     }
     to.push_str(&format!(" {number}"));
@@ -169,6 +174,13 @@ fn judged(name: &str, number: u8, counts: &mut Counts) {
         counts.add(&format!("{name} accepted"), 1);
     } else {
         counts.add(&format!("{name} refused {number}"), 1);
+    }
+}
+
+// Counts that a head was run or loaded while it waits.
+fn while_it_waits(frame: &Frame, name: &str, head: u64, number: u8, counts: &mut Counts) {
+    if number == 0 && frame.rota.waits(head) {
+        counts.add(&format!("{name} accepted while its head waits"), 1);
     }
 }
 
@@ -205,6 +217,7 @@ fn run(
             }
         }
     }
+    while_it_waits(frame, name, head, refusal, counts);
     numbered(name, refusal, counts, to);
     for out in &outputs {
         to.push(' ');
@@ -281,6 +294,7 @@ fn call(frame: &mut Frame, line: &[u8], counts: &mut Counts, to: &mut String) ->
                     counts.add(&format!("mirrored load {}", type_of(byte % 16)), 1);
                 }
             }
+            while_it_waits(frame, "load", head, refusal, counts);
             numbered("load", refusal, counts, to);
         }
         [b"run", head, of, input, out] => {
@@ -361,7 +375,9 @@ fn call(frame: &mut Frame, line: &[u8], counts: &mut Counts, to: &mut String) ->
             let samples = number(samples).filter(|n| *n <= MOST_TOLD)?;
             let number = frame.rota.tell(head, samples);
             judged("tell", number, counts);
-            if samples == 0 && number != 14 {
+            if number == 0 && frame.type_at(head).is_none() {
+                counts.add("tell of an empty head", 1);
+            } else if samples == 0 && number != 14 {
                 counts.add(&format!("tell refused {number} before 14"), 1);
             }
             numbered("tell", number, counts, to);
@@ -371,7 +387,7 @@ fn call(frame: &mut Frame, line: &[u8], counts: &mut Counts, to: &mut String) ->
             named("turn", counts, to);
             match frame.rota.turn() {
                 Some((head, granted)) => {
-                    let waits = frame.rota.waiting().any(|h| h == head);
+                    let waits = frame.rota.waits(head);
                     counts.add("turn granted", 1);
                     counts.add("samples granted", granted);
                     counts.add_each(&[

@@ -215,6 +215,11 @@ fn tried_enough(counts: &Counts) -> bool {
         "turn none",
         "turn of the last 256 samples",
         "turn while all heads wait",
+        "tell of an empty head",
+        "run accepted while its head waits",
+        "two accepted while its head waits",
+        "load accepted while its head waits",
+        "call refused while a head waits",
     ] {
         wanted.push(call.to_string());
     }
@@ -316,7 +321,7 @@ fn summary(counts: &Counts) {
         counts.of("refusal 17"),
     );
     println!(
-        "rota: tellings {}, refused with 1 {}, with 13 {}, with 14 {}; turns {}, of 256 samples {}, of the head last served {}, past head 11 {}, while others wait {}, while all wait {}, that end a wait {}, of none {}; samples granted {}",
+        "rota: tellings {}, refused with 1 {}, with 13 {}, with 14 {}; turns {}, of 256 samples {}, of the head last served {}, past head 11 {}, while others wait {}, while all wait {}, that end a wait {}, of none {}; samples granted {}; tellings of an empty head {}; while its head waits run {}, two {}, load {}; refused while a head waits {}",
         counts.of("tell accepted"),
         counts.of("tell refused 1"),
         counts.of("tell refused 13"),
@@ -330,6 +335,11 @@ fn summary(counts: &Counts) {
         counts.of("turn that ends a wait"),
         counts.of("turn none"),
         counts.of("samples granted"),
+        counts.of("tell of an empty head"),
+        counts.of("run accepted while its head waits"),
+        counts.of("two accepted while its head waits"),
+        counts.of("load accepted while its head waits"),
+        counts.of("call refused while a head waits"),
     );
     println!(
         "conversions: edition 1 to 2 {}, 2 to 1 {}, copies {}; refused with 12 {}, with 15 {}, as no sheet {}",
