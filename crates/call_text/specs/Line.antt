@@ -27,9 +27,9 @@ abbrev pub small_number : List ℕ → Option ℕ
 small_number s = option_and_then small (number_of s)
 
 -- not a word: the keyword alone is the call
-abbrev pub bare_call : CallOf → List (List ℕ) → Option CallOf
-bare_call call [] = Some call
-bare_call call _ = None
+abbrev pub keyword_alone : CallOf → List (List ℕ) → Option CallOf
+keyword_alone call [] = Some call
+keyword_alone call _ = None
 
 -- HEAD
 abbrev pub one_number : List (List ℕ) → Option ℕ
@@ -92,10 +92,10 @@ call_for keyword.Check1 fields = option_map (paired Check1) (buffer_and_number f
 call_for keyword.Lookup1 fields = option_map (paired Lookup1) (buffer_and_number fields)
 call_for keyword.Convert fields = convert_call fields
 call_for keyword.Count fields = option_map Count (one_number fields)
-call_for keyword.Begin fields = bare_call Begin fields
+call_for keyword.Begin fields = keyword_alone Begin fields
 call_for keyword.Take fields = option_map Take (one_buffer fields)
 call_for keyword.Tell fields = tell_call fields
-call_for keyword.Turn fields = bare_call Turn fields
+call_for keyword.Turn fields = keyword_alone Turn fields
 
 -- an answer of `call_of`: none for a silent line
 abbrev pub Answer : Type 0 → Type 0

@@ -2,7 +2,7 @@
 
 ghost use Rattle.std.specs.Prelude.{◌≡◌, option_map, option_copied};
 ghost use Rattle.form_text.specs.Field.{fields_left};
-ghost use Rattle.call_text.specs.Line.{small_number, one_number, two_numbers, one_buffer, buffer_and_number, bare_call, tell_call, convert_call, run_call, two_call, call_for, call_of, text_pair, text_call, text_answer};
+ghost use Rattle.call_text.specs.Line.{small_number, one_number, two_numbers, one_buffer, buffer_and_number, keyword_alone, tell_call, convert_call, run_call, two_call, call_for, call_of, text_pair, text_call, text_answer};
 
 use crate::buffer::units_field;
 use crate::edition::edition_of;
@@ -95,8 +95,8 @@ fn small_number(s: &[u8]) -> Option<u16>
 // Each reader below has words of its own behind the keyword: one for any two words would be told how each is read, and be no shorter.
 
 // Not a word: the keyword alone is the call.
-fn bare_call<'a>(call: Call<&'a [u8]>, fields: Fields<'a>) -> Option<Call<&'a [u8]>>
-    ensures { option_map text_call result ≡ bare_call (text_call call.entry) (fields_left fields.entry) }
+fn keyword_alone<'a>(call: Call<&'a [u8]>, fields: Fields<'a>) -> Option<Call<&'a [u8]>>
+    ensures { option_map text_call result ≡ keyword_alone (text_call call.entry) (fields_left fields.entry) }
 {
     fields.end()?;
     Some(call)
@@ -226,10 +226,10 @@ fn call_for<'a>(keyword: Keyword, fields: Fields<'a>) -> Option<Call<&'a [u8]>>
         }
         Keyword::Convert => convert_call(fields)?,
         Keyword::Count => Call::Count(one_number(fields)?),
-        Keyword::Begin => bare_call(Call::Begin, fields)?,
+        Keyword::Begin => keyword_alone(Call::Begin, fields)?,
         Keyword::Take => Call::Take(one_buffer(fields)?),
         Keyword::Tell => tell_call(fields)?,
-        Keyword::Turn => bare_call(Call::Turn, fields)?,
+        Keyword::Turn => keyword_alone(Call::Turn, fields)?,
     };
     Some(call)
 }

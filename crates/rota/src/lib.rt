@@ -75,7 +75,8 @@ impl Rota {
         }
     }
 
-    // The next head that waits, in ring order after the one that was served last. That one comes last itself.
+    // The next head that waits, in ring order after the one that was served last, which comes last itself. `last` counts modulo 12, since a
+    // rota that was made by hand may have any number there.
     fn next(&self) -> Option<usize>
         ensures first { result ≡ first_after self.now.last (waits_in self.now) }
         ensures below { IfSome result (λ head. head < 12) }
@@ -97,7 +98,7 @@ impl Rota {
         Ok(())
     }
 
-    // Grants the next waiting head what it has left, 256 samples at most.
+    // Grants the next waiting head what it has left, 256 samples at most; none where no head waits.
     #[tactic(auto, unfolding(crate::specs::Rota::perform))]
     pub fn turn(&mut self) -> Option<Grant>
         ensures { granting result self.new ≡ perform self.old turn }

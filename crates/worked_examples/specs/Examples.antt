@@ -159,7 +159,7 @@ slow_card =
 -- head 3 waits for more than a turn grants, and heads 11 and 0 are told meanwhile
 abbrev pub one_worker : List Call
 one_worker =
-    at_rota (tell 12 5)
+    at_rota (tell 12 0)
     ∷ at_rota (tell 3 0)
     ∷ at_rota turn
     ∷ at_rota (tell 3 300)
@@ -308,7 +308,7 @@ pub record WorkedExamples : Type 0 where
       ∷ wrote 0 10 (0x00 ∷ 0x3f ∷ replicate 8 0 ++ 0xee ∷ 0xee ∷ [])
       ∷ wrote 17 0 (0xee ∷ [])
       ∷ []
-  -- document 02, b: 1, then 13, then 14; none where no head waits. Head 3 gets 256 of its 300, then come 11 and 0 in ring order, though told
+  -- document 02, b: 1 before 14, and 13 before 14; none where no head waits. Head 3 gets 256 of its 300, then come 11 and 0 in ring order, though told
   -- later, and then head 3 its other 44
   pub rota_replies :
       replies_to no_histories one_worker
