@@ -1,5 +1,5 @@
 // The rota of the twelve heads (02 b): which of them the one worker feeds next, and with how many samples. Nothing is allocated, and a turn
-// looks at twelve heads, whatever was told. A telling that is refused leaves the rota as it was, and so does a turn when no head waits.
+// looks at twelve heads at most, whatever was told. A telling that is refused leaves the rota as it was, and so does a turn when no head waits.
 #![tactic(auto)]
 
 ghost use Rattle.std.specs.Prelude.{◌≡◌, ◌<◌, IfSome};
