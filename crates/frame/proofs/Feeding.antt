@@ -21,12 +21,11 @@ use Rattle.frame.specs.Call.{Call, opening, writing, loading, at, beginning, tak
 use Rattle.frame.specs.Calls.{fresh_frame, with_rota, Done, perform}
 use Rattle.frame.specs.History.{Histories, no_histories, call_number, grown, advance, advance_all}
 use Rattle.frame.specs.Demand.{replies_from, frame_after}
-use Rattle.frame.specs.Without.{without, other_replies}
 use Rattle.frame.specs.Feeding.{is_tell_or_turn, rota_call, rota_calls, rota_reply, rota_replies, Feeding}
 use Rattle.frame.proofs.Picture.{cond_out}
 use Rattle.frame.proofs.Upholds.{after_calls}
 use Rattle.frame.proofs.Apart.{Sort, begins, takes, feeds, neither, sort_of, beside_rota, beside_events}
-use Rattle.frame.proofs.Without.{beside, frame_beside, replies_beside}
+use Rattle.frame.proofs.Without.{Part, kept, frame_step, frame_without, replies_without, histories_without}
 use Rattle.frame.specs.declared.Frame.{Frame}
 
 -- ---- beside another rota, the other calls do the same
@@ -42,24 +41,22 @@ aside : (f : Frame) (r : Rota) (c : Call) → is_tell_or_turn c ≡ false → pe
 aside f r c = aside_by f r (sort_of c)
 
 -- a telling and a turn change the rota alone
-alone_by : (f : Frame) {c : Call} → Sort c → is_tell_or_turn c ≡ true → (perform f c).frame ≡ with_rota f (perform f c).frame.rota
+alone : (f : Frame) {c : Call} → Sort c → is_tell_or_turn c ≡ true → (perform f c).frame ≡ with_rota f (perform f c).frame.rota
 unfolding perform
-alone_by f begins q = absurd (clash q)
-alone_by f (takes out) q = absurd (clash q)
-alone_by f (feeds c) q = refl
-alone_by f (neither s n m) q = absurd (clash (sym m ∙ q))
+alone f begins q = absurd (clash q)
+alone f (takes out) q = absurd (clash q)
+alone f (feeds c) q = refl
+alone f (neither s n m) q = absurd (clash (sym m ∙ q))
 
-alone : (f : Frame) (c : Call) → is_tell_or_turn c ≡ true → (perform f c).frame ≡ with_rota f (perform f c).frame.rota
-alone f c = alone_by f (sort_of c)
-
-others : (f : Frame) (c : Call) → is_tell_or_turn c ≡ false → (perform f c).frame.rota ≡ f.rota
-others f c q = ap (λ (d : Done). d.frame.rota) (aside f f.rota c q)
-
-same_frame : (f : Frame) (cs : List Call) → frame_after f cs ≡ with_rota (frame_after f (without is_tell_or_turn cs)) (frame_after f cs).rota
-same_frame f = frame_beside is_tell_or_turn with_rota (λ f. f.rota) (λ f r. refl) aside (λ f r c q. alone (with_rota f r) c q) f f.rota
-
-same_replies : (f : Frame) (cs : List Call) → other_replies is_tell_or_turn f cs ≡ replies_from f (without is_tell_or_turn cs)
-same_replies f = replies_beside is_tell_or_turn with_rota (λ f. f.rota) (λ f r. refl) aside (λ f r c q. alone (with_rota f r) c q) f f.rota
+the_rota : Part is_tell_or_turn frame_step with_rota (λ f. f.rota)
+the_rota =
+    record {
+      got = λ f r. refl;
+      again = λ f r q. refl;
+      as_is = λ f. refl;
+      others = λ f r c q. ap (λ (d : Done). d.frame) (aside f r c q);
+      those = λ f c. alone f (sort_of c);
+    }
 
 -- ---- the same of the histories
 
@@ -89,12 +86,15 @@ module _ (H : Histories) where
   alone_in (feeds c) q = rw (own_call c) refl
   alone_in (neither s n m) q = absurd (clash (sym m ∙ q))
 
-same_histories : (H : Histories) (cs : List Call) → advance_all H cs ≡ with_events (advance_all H (without is_tell_or_turn cs)) (advance_all H cs).rota
-unfolding advance_all
-same_histories H =
-    beside is_tell_or_turn advance advance_all with_events (λ H. H.rota) (λ H. refl) (λ H c cs. refl) (λ H l. refl)
-    (λ H l c. aside_in H l (sort_of c))
-    (λ H l c. alone_in (with_events H l) (sort_of c)) H H.rota
+events_in : Part is_tell_or_turn advance with_events (λ H. H.rota)
+events_in =
+    record {
+      got = λ H l. refl;
+      again = λ H l m. refl;
+      as_is = λ H. refl;
+      others = λ H l c. aside_in H l (sort_of c);
+      those = λ H c. alone_in H (sort_of c);
+    }
 
 -- ---- the rota's own calls
 
@@ -120,36 +120,36 @@ kind_of f (at_rota c) = own c
 module _ (f : Frame) (cs : List Call) where
   rota_first : (c : Call) → Kind f c → (frame_after (perform f c).frame cs).rota ≡ rota_from (perform f c).frame.rota (rota_calls cs)
       → (frame_after f (c ∷ cs)).rota ≡ rota_from f.rota (rota_calls (c ∷ cs))
-  unfolding frame_after rota_from rota_calls perform
+  unfolding frame_after rota_from perform
   rota_first _ (own c) e = e
-  rota_first c (other q n m) e = rw n (rw (others f c q) at e)
+  rota_first c (other q n m) e = rw n (rw (kept the_rota f c q) at e)
 
   answers_first : (c : Call) → Kind f c
       → rota_replies (replies_from (perform f c).frame cs) ≡ rota_replies_from (perform f c).frame.rota (rota_calls cs)
       → rota_replies (replies_from f (c ∷ cs)) ≡ rota_replies_from f.rota (rota_calls (c ∷ cs))
-  unfolding replies_from rota_replies rota_replies_from rota_calls perform
+  unfolding replies_from rota_replies_from perform
   answers_first _ (own c) e = ap (λ (rs : List rota.Reply). (rota_step.perform f.rota c).reply ∷ rs) e
-  answers_first c (other q n m) e = rw (n, m) (rw (others f c q) at e)
+  answers_first c (other q n m) e = rw (n, m) (rw (kept the_rota f c q) at e)
 
 own_rota : (f : Frame) (cs : List Call) → (frame_after f cs).rota ≡ rota_from f.rota (rota_calls cs)
-unfolding frame_after rota_from rota_calls
+unfolding frame_after rota_from
 own_rota f [] = refl
 own_rota f (c ∷ cs) = rota_first f cs c (kind_of f c) (own_rota (perform f c).frame cs)
 
 own_answers : (f : Frame) (cs : List Call) → rota_replies (replies_from f cs) ≡ rota_replies_from f.rota (rota_calls cs)
-unfolding replies_from rota_replies rota_replies_from rota_calls
+unfolding replies_from rota_replies_from
 own_answers f [] = refl
 own_answers f (c ∷ cs) = answers_first f cs c (kind_of f c) (own_answers (perform f c).frame cs)
 
 own_first : (f : Frame) (H : Histories) (c : Call) (cs : List Call) → Kind f c
     → (advance_all (advance H c) cs).rota ≡ rota_history (advance H c).rota (rota_calls cs)
     → (advance_all H (c ∷ cs)).rota ≡ rota_history H.rota (rota_calls (c ∷ cs))
-unfolding advance_all rota_history rota_calls
+unfolding advance_all rota_history
 own_first f H _ cs (own c) e = e ∙ ap (λ (G : Histories). rota_history G.rota (rota_calls cs)) (own_call H c)
 own_first f H c cs (other q n m) e = rw n (e ∙ ap (λ (G : Histories). rota_history G.rota (rota_calls cs)) (aside_in H H.rota (sort_of c) q))
 
 own_history : (H : Histories) (cs : List Call) → (advance_all H cs).rota ≡ rota_history H.rota (rota_calls cs)
-unfolding advance_all rota_history rota_calls
+unfolding advance_all rota_history
 own_history H [] = refl
 own_history H (c ∷ cs) = own_first fresh_frame H c cs (kind_of fresh_frame c) (own_history (advance H c) cs)
 
@@ -168,15 +168,15 @@ idle f e = ap (with_rota f) (fair.idle f.rota (ap granted_in e))
 pub feeding : Feeding
 feeding =
     record {
-      replies = same_replies;
-      heads = λ f cs. ap (λ (g : Frame). g.heads) (same_frame f cs);
-      library = λ f cs. ap (λ (g : Frame). g.library) (same_frame f cs);
-      save = λ f cs. ap (λ (g : Frame). g.save) (same_frame f cs);
-      histories = λ H cs. ap (λ (G : Histories). G.heads) (same_histories H cs);
-      sheet = λ H cs. ap (λ (G : Histories). G.sheet) (same_histories H cs);
-      left = λ H cs. ap (λ (G : Histories). G.left) (same_histories H cs);
-      alone = alone;
-      others = others;
+      replies = replies_without the_rota (λ f r c q. ap (λ (d : Done). d.reply) (aside f r c q));
+      heads = λ f cs. ap (λ (g : Frame). g.heads) (frame_without the_rota f cs);
+      library = λ f cs. ap (λ (g : Frame). g.library) (frame_without the_rota f cs);
+      save = λ f cs. ap (λ (g : Frame). g.save) (frame_without the_rota f cs);
+      histories = λ H cs. ap (λ (G : Histories). G.heads) (histories_without events_in H cs);
+      sheet = λ H cs. ap (λ (G : Histories). G.sheet) (histories_without events_in H cs);
+      left = λ H cs. ap (λ (G : Histories). G.left) (histories_without events_in H cs);
+      alone = λ f c. alone f (sort_of c);
+      others = kept the_rota;
       rota = own_rota;
       answers = own_answers;
       own = own_history;

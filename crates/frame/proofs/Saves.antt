@@ -21,14 +21,13 @@ use Rattle.saves.proofs.Parts.{parts, begin_refused, none_left}
 use Rattle.frame.specs.Call.{Call, opening, writing, loading, at, beginning, taking, at_rota, number_in, wrote}
 use Rattle.frame.specs.Calls.{Done, with_save, perform}
 use Rattle.frame.specs.History.{Histories, no_histories, call_number, grown, advance, advance_all}
-use Rattle.frame.specs.Demand.{replies_from, frame_after}
-use Rattle.frame.specs.Without.{without, other_replies}
+use Rattle.frame.specs.Demand.{frame_after}
 use Rattle.frame.specs.Saves.{is_begin_or_take, written_count, part_in, parts_from, NoneBegun, no_call, refused_begin, other_call, Joined, begun_after, sheet_after, Saving}
 use Rattle.frame.proofs.Sound.{Sound, sound_all, sound_none}
 use Rattle.frame.proofs.Picture.{cond_out, begun_save, frame_for}
 use Rattle.frame.proofs.Upholds.{after_calls}
 use Rattle.frame.proofs.Apart.{Sort, begins, takes, feeds, neither, sort_of, beside_save, beside_left}
-use Rattle.frame.proofs.Without.{beside, frame_beside, replies_beside}
+use Rattle.frame.proofs.Without.{Part, kept, frame_step, frame_without, replies_without, histories_without}
 use Rattle.frame.specs.declared.Frame.{Frame}
 
 -- ---- beside another save, the other calls do the same
@@ -46,21 +45,22 @@ aside f v c = aside_by f v (sort_of c)
 -- ---- a list without its begins and takes
 
 -- a begin and a take change the save alone
-alone_by : (f : Frame) {c : Call} → Sort c → is_begin_or_take c ≡ true → (perform f c).frame ≡ with_save f (perform f c).frame.save
+alone : (f : Frame) {c : Call} → Sort c → is_begin_or_take c ≡ true → (perform f c).frame ≡ with_save f (perform f c).frame.save
 unfolding perform
-alone_by f begins q = refl
-alone_by f (takes out) q = refl
-alone_by f (feeds c) q = absurd (clash q)
-alone_by f (neither s n m) q = absurd (clash (sym n ∙ q))
+alone f begins q = refl
+alone f (takes out) q = refl
+alone f (feeds c) q = absurd (clash q)
+alone f (neither s n m) q = absurd (clash (sym n ∙ q))
 
-alone : (f : Frame) (c : Call) → is_begin_or_take c ≡ true → (perform f c).frame ≡ with_save f (perform f c).frame.save
-alone f c = alone_by f (sort_of c)
-
-same_frame : (f : Frame) (cs : List Call) → frame_after f cs ≡ with_save (frame_after f (without is_begin_or_take cs)) (frame_after f cs).save
-same_frame f = frame_beside is_begin_or_take with_save (λ f. f.save) (λ f v. refl) aside (λ f v c q. alone (with_save f v) c q) f f.save
-
-same_replies : (f : Frame) (cs : List Call) → other_replies is_begin_or_take f cs ≡ replies_from f (without is_begin_or_take cs)
-same_replies f = replies_beside is_begin_or_take with_save (λ f. f.save) (λ f v. refl) aside (λ f v c q. alone (with_save f v) c q) f f.save
+the_save : Part is_begin_or_take frame_step with_save (λ f. f.save)
+the_save =
+    record {
+      got = λ f v. refl;
+      again = λ f v w. refl;
+      as_is = λ f. refl;
+      others = λ f v c q. ap (λ (d : Done). d.frame) (aside f v c q);
+      those = λ f c. alone f (sort_of c);
+    }
 
 -- ---- the same of the histories
 
@@ -87,18 +87,17 @@ module _ (H : Histories) where
   alone_in (feeds c) q = absurd (clash q)
   alone_in (neither s n m) q = absurd (clash (sym n ∙ q))
 
-same_histories : (H : Histories) (cs : List Call) → advance_all H cs ≡ with_bytes (advance_all H (without is_begin_or_take cs)) (advance_all H cs).left
-unfolding advance_all
-same_histories H =
-    beside is_begin_or_take advance advance_all with_bytes (λ H. H.left) (λ H. refl) (λ H c cs. refl) (λ H l. refl)
-    (λ H l c. aside_in H l (sort_of c))
-    (λ H l c. alone_in (with_bytes H l) (sort_of c)) H H.left
+left_in : Part is_begin_or_take advance with_bytes (λ H. H.left)
+left_in =
+    record {
+      got = λ H l. refl;
+      again = λ H l m. refl;
+      as_is = λ H. refl;
+      others = λ H l c. aside_in H l (sort_of c);
+      those = λ H c. alone_in H (sort_of c);
+    }
 
 -- ---- the parts
-
--- no other call moves the save
-others : (f : Frame) (c : Call) → is_begin_or_take c ≡ false → (perform f c).frame.save ≡ f.save
-others f c q = ap (λ (d : Done). d.frame.save) (aside f f.save c q)
 
 -- what a call hands out, with what it leaves, is what was left
 abbrev Part_of : Frame → Call → Type 0
@@ -113,13 +112,13 @@ unfolding perform
 part_taken f out = (parts.part f.save out).joined
 
 part_other : (f : Frame) (c : Call) → (c ≡ beginning → ⊥) → Part_of f c
-part_other f (opening s) z = ap left_of (others f (opening s) refl)
-part_other f (writing out) z = ap left_of (others f (writing out) refl)
-part_other f (loading h e) z = ap left_of (others f (loading h e) refl)
-part_other f (at h a) z = ap left_of (others f (at h a) refl)
+part_other f (opening s) z = ap left_of (kept the_save f (opening s) refl)
+part_other f (writing out) z = ap left_of (kept the_save f (writing out) refl)
+part_other f (loading h e) z = ap left_of (kept the_save f (loading h e) refl)
+part_other f (at h a) z = ap left_of (kept the_save f (at h a) refl)
 part_other f beginning z = absurd (z refl)
 part_other f (taking out) z = part_taken f out
-part_other f (at_rota c) z = ap left_of (others f (at_rota c) refl)
+part_other f (at_rota c) z = ap left_of (kept the_save f (at_rota c) refl)
 
 joined_first : (f : Frame) (c : Call) (cs : List Call) → Part_of f c
     → parts_from (perform f c).frame cs ++ left_of (frame_after (perform f c).frame cs).save ≡ left_of (perform f c).frame.save
@@ -204,14 +203,14 @@ module _ (f : Frame) where
 pub saving : Saving
 saving =
     record {
-      replies = same_replies;
-      heads = λ f cs. ap (λ (g : Frame). g.heads) (same_frame f cs);
-      library = λ f cs. ap (λ (g : Frame). g.library) (same_frame f cs);
-      histories = λ H cs. ap (λ (G : Histories). G.heads) (same_histories H cs);
-      sheet = λ H cs. ap (λ (G : Histories). G.sheet) (same_histories H cs);
-      alone = alone;
-      others = others;
-      left = λ H c q. ap (λ (G : Histories). G.left) (aside_in H H.left (sort_of c) q);
+      replies = replies_without the_save (λ f v c q. ap (λ (d : Done). d.reply) (aside f v c q));
+      heads = λ f cs. ap (λ (g : Frame). g.heads) (frame_without the_save f cs);
+      library = λ f cs. ap (λ (g : Frame). g.library) (frame_without the_save f cs);
+      histories = λ H cs. ap (λ (G : Histories). G.heads) (histories_without left_in H cs);
+      sheet = λ H cs. ap (λ (G : Histories). G.sheet) (histories_without left_in H cs);
+      alone = λ f c. alone f (sort_of c);
+      others = kept the_save;
+      left = kept left_in;
       begun = begun;
       parts = parts_are;
       unfinished = unfinished;

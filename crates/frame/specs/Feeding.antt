@@ -1,5 +1,6 @@
 -- What document 02, b says of the rota in a frame, over every frame and every list of calls.
-use Rattle.std.specs.Prelude.{ℕ, Bool, true, false, ◌<◌, ◌≤◌, ◌≡◌, List, [], ◌∷◌, ◌++◌, Option, None}
+use Rattle.std.specs.Prelude.{ℕ, Bool, true, false, ◌<◌, ◌≤◌, ◌≡◌, List, [], ◌∷◌, Option, None}
+use Rattle.std.specs.List.{flat_map}
 use Rattle.rota.specs.Call as rota
 use Rattle.rota.specs.Call.{turn, of_turn}
 use Rattle.rota.specs.History.{Waits, advance_all as rota_history}
@@ -22,9 +23,8 @@ abbrev pub rota_call : Call → List rota.Call
 rota_call (at_rota c) = c ∷ []
 rota_call _ = []
 
-unfoldable pub rota_calls : List Call → List rota.Call
-rota_calls [] = []
-rota_calls (c ∷ cs) = rota_call c ++ rota_calls cs
+abbrev pub rota_calls : List Call → List rota.Call
+rota_calls cs = flat_map rota_call cs
 
 -- and of what they reply
 
@@ -32,9 +32,8 @@ abbrev pub rota_reply : Reply → List rota.Reply
 rota_reply (of_rota r) = r ∷ []
 rota_reply _ = []
 
-unfoldable pub rota_replies : List Reply → List rota.Reply
-rota_replies [] = []
-rota_replies (r ∷ rs) = rota_reply r ++ rota_replies rs
+abbrev pub rota_replies : List Reply → List rota.Reply
+rota_replies rs = flat_map rota_reply rs
 
 -- what the turns among the calls ds grant, behind the calls cs from a fresh frame
 abbrev pub grants_after : List Call → List Call → List (Option Grant)
