@@ -28,6 +28,7 @@ number row.Series = 15
 number row.Unfinished = 16
 number row.Finished = 17
 number row.Count = 18
+number row.Frame = 20
 
 -- the number that a call answers: 0 where it is accepted
 abbrev pub number_in : {A : Type 0} → Result A Refusal → ℕ
