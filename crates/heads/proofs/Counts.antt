@@ -7,7 +7,7 @@ use native.Mathlib.Omega.{arith}
 use borrow.Author.Tests.{ltb-false, eqb-true, eqb-false}
 use lib.Dec.{ltb, eqb}
 use Rattle.heads.specs.Snapshot.{greatest_count, count_refusal, run_number}
-use Rattle.heads.specs.History.{Event, load_event, run_event, rest_event, since_with, since_from, samples_in, count_of, count_with, snapshot_with, snapshot_from}
+use Rattle.heads.specs.History.{Event, load_event, run_event, rest_event, restored_event, since_with, since_from, samples_in, count_of, count_with, snapshot_with, snapshot_from}
 use Rattle.heads.specs.Counts.{CountsAreSums}
 use Rattle.heads.specs.declared.Snapshot.{Snapshot}
 
@@ -40,6 +40,7 @@ samples_append [] m = omega arith
 samples_append (load_event e ∷ l) m = samples_append l m
 samples_append (run_event form us ∷ l) m = let h = samples_append l m in omega arith
 samples_append (rest_event ∷ l) m = samples_append l m
+samples_append (restored_event f n ∷ l) m = let h = samples_append l m in omega arith
 
 -- the samples since the last load, one event later
 counted : (l : List Event) (i : Event) → samples_in (since_with l i) ≡ count_with (samples_in l) i
@@ -47,6 +48,7 @@ unfolding samples_in
 counted l (load_event e) = refl
 counted l (run_event form us) = let h = samples_append l (run_event form us ∷ []) in omega arith
 counted l rest_event = let h = samples_append l (rest_event ∷ []) in omega arith
+counted l (restored_event f n) = omega arith
 
 since_snoc : (m l : List Event) (i : Event) → since_from m (l ++ i ∷ []) ≡ since_with (since_from m l) i
 unfolding since_from

@@ -8,7 +8,7 @@ use Rattle.any_filter.specs.declared.Filter.{Filter}
 use Rattle.any_filter.specs.declared.Filter.TheVariants.{DcBlocker, OnePole, Svf, NaiveSvf, ModifiedSvf, CrossoverSvf}
 use Rattle.runs.specs.Run.{through}
 use Rattle.runs.specs.declared.form.RunForm.{RunForm}
-use Rattle.heads.specs.History.{Event, load_event, run_event, rest_event, filter_with, snapshot_with, snapshot_from, snapshot_of}
+use Rattle.heads.specs.History.{Event, load_event, run_event, rest_event, restored_event, filter_with, snapshot_with, snapshot_from, snapshot_of}
 use Rattle.heads.specs.Rest.{load_with, last_load_from, RestIsLoad}
 use Rattle.any_filter.proofs.Laws.{comes_back, clears}
 use Rattle.runs.proofs.Kept.{runs_keep}
@@ -59,6 +59,7 @@ unfolding snapshot_from
 after_event s l (load_event e) h = ap Some (loads_at_rest e)
 after_event s l (run_event form us) h = run_in s form us ∙ h
 after_event s l rest_event h = rest_in s ∙ h
+after_event s l (restored_event f n) h = refl
 
 -- ---- histories
 

@@ -15,11 +15,13 @@ use Rattle.heads.specs.Act.{Act, run, run_two, rest, mark, back, drop, count, He
 use Rattle.heads.specs.Snapshot.{run_number}
 use Rattle.heads.specs.declared.Snapshot.{Snapshot}
 
--- an item of a kept list: a load with the entry's kind byte and words, a run with its form and the samples within the shortest length
+-- an item of a kept list: a load with the entry's kind byte and words, a run with its form and the samples within the shortest length, a
+-- rest; and a filter that was restored, with its count, which opens a list as a load does (02 k)
 pub data Event : Type 0 where
   load_event : Entry → Event
   run_event : RunForm → List Float → Event
   rest_event : Event
+  restored_event : Filter → ℕ → Event
 
 -- a head's kept list, and its row of earlier lists
 pub record HeadHistory : Type 0 where
@@ -30,40 +32,43 @@ pub record HeadHistory : Type 0 where
 abbrev pub no_history : HeadHistory
 no_history = record { history = []; checkpoints = [] }
 
--- ---- the type of filter that a history leads to: that of its last load (document 01's kind of a head)
+-- ---- the type of filter that a history leads to: that of its last load or restored filter (document 01's kind of a head)
 
 abbrev pub type_with : FilterType → Event → FilterType
 type_with k (load_event e) = type_of (filter_of e)
 type_with k (run_event form us) = k
 type_with k rest_event = k
+type_with k (restored_event f n) = type_of f
 
 unfoldable pub type_from : FilterType → List Event → FilterType
 type_from k [] = k
 type_from k (i ∷ is) = type_from (type_with k i) is
 
--- a history begins with a load, so the type that this starts from is never seen
+-- a history begins with one of them, so the type that this starts from is never seen
 abbrev pub last_type : List Event → FilterType
 last_type l = type_from type.DcBlocker l
 
 -- ---- the samples sewn since the last load of a history (02 i)
 
--- the events since the last load, which are all where there is none
+-- the events since the last load, which are all where there is none; a restored filter begins anew too, and stands first with its count (02 k)
 
 abbrev pub since_with : List Event → Event → List Event
 since_with l (load_event e) = []
 since_with l (run_event form us) = l ++ run_event form us ∷ []
 since_with l rest_event = l ++ rest_event ∷ []
+since_with l (restored_event f n) = restored_event f n ∷ []
 
 unfoldable pub since_from : List Event → List Event → List Event
 since_from l [] = l
 since_from l (i ∷ is) = since_from (since_with l i) is
 
--- the samples of all runs among some events
+-- the samples of all runs among some events, and those that restored filters came with
 unfoldable pub samples_in : List Event → ℕ
 samples_in [] = 0
 samples_in (load_event e ∷ is) = samples_in is
 samples_in (run_event form us ∷ is) = length us + samples_in is
 samples_in (rest_event ∷ is) = samples_in is
+samples_in (restored_event f n ∷ is) = n + samples_in is
 
 abbrev pub count_of : List Event → ℕ
 count_of l = samples_in (since_from [] l)
@@ -120,12 +125,14 @@ filter_with None (run_event form us) = None
 filter_with (Some f) (run_event form us) = Some (through f form us)
 filter_with None rest_event = None
 filter_with (Some f) rest_event = Some (rested f)
+filter_with s (restored_event f n) = Some f
 
--- the count: a load begins anew, a run adds its samples (02 i)
+-- the count: a load begins anew, a run adds its samples (02 i); a restored filter brings its own (02 k)
 abbrev pub count_with : ℕ → Event → ℕ
 count_with n (load_event e) = 0
 count_with n (run_event form us) = n + length us
 count_with n rest_event = n
+count_with n (restored_event f k) = k
 
 abbrev pub snapshot_with : Snapshot → Event → Snapshot
 snapshot_with s i = record { filter = filter_with s.filter i; count = count_with s.count i }

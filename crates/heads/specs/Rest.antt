@@ -1,13 +1,16 @@
 -- What a rest is to a history (document 02, e): from it on, the head's filter is what it would be if the head had just been loaded.
 use Rattle.std.specs.Prelude.{◌≡◌, List, [], ◌∷◌, ◌++◌}
-use Rattle.heads.specs.History.{Event, load_event, run_event, rest_event, snapshot_of}
+use Rattle.any_filter.specs.Cases.{rested}
+use Rattle.heads.specs.History.{Event, load_event, run_event, rest_event, restored_event, snapshot_of}
 
--- the last load of a history alone, or nothing where it has none
+-- the last load of a history alone, or nothing where it has none; of a filter that was restored since (02 k), whose load lies before the
+-- closing, that filter at rest
 
 abbrev pub load_with : List Event → Event → List Event
 load_with l (load_event e) = load_event e ∷ []
 load_with l (run_event form us) = l
 load_with l rest_event = l
+load_with l (restored_event f n) = restored_event (rested f) n ∷ []
 
 unfoldable pub last_load_from : List Event → List Event → List Event
 last_load_from l [] = l
