@@ -10,7 +10,7 @@ use Rattle.std.specs.Prelude.{Some, slice_get}
 use Rattle.std.proofs.lemmas.Option.{slice_get-get_or}
 use Rattle.std.specs.List.{flat_map}
 use Rattle.lists.specs.Table.{table}
-use Rattle.lists.proofs.Tables.{length_table, get_or_table}
+use Rattle.lists.proofs.Tables.{length_table, get_or_table, pieces}
 use Rattle.lists.proofs.Over.{over_all}
 use Rattle.sheets.specs.Sheet.{entries_of, edition_in, Fits, Sized, entry_in}
 use Rattle.sheets.specs.Rows.{Sheet}
@@ -20,7 +20,6 @@ use Rattle.sheets.proofs.Rows.{sheet_check}
 use Rattle.library.specs.Library.{count, none, stored_in, library_of, bytes_of, entry_from, entry_at, write_number}
 use Rattle.library.specs.RoundTrip.{Rewritten, ReadWrite, Reread, written_sheet, WriteRead, RefusedWrite, OneSheet, SameEntries}
 use Rattle.library.specs.declared.StoredEntry.{StoredEntry}
-use Rattle.library.proofs.Tables.{pieces}
 use Rattle.std.proofs.lemmas.List.Concat.{flat_map_single}
 use Rattle.lists.proofs.Tables.{table_none}
 use Rattle.library.proofs.Rows.{write_fits}

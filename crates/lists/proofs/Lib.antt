@@ -1,2 +1,3 @@
 pub mod Over
+pub mod Puts
 pub mod Tables

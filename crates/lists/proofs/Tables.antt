@@ -1,13 +1,15 @@
--- The laws of `table`, the list of a function's first values. Assumes nothing.
-use Prim.Native.Nat.{ℕ, zero, suc, ◌+◌, ◌<◌, min}
-use mathlib.Core.Path.{◌≡◌, refl, ap}
+-- The laws of `table`, the list of a function's first values, and the pieces of a list. Assumes nothing.
+use Prim.Native.Nat.{ℕ, zero, suc, ◌+◌, ◌*◌, ◌<◌, min}
+use mathlib.Core.Path.{◌≡◌, refl, sym, ap, ◌∙◌}
 use mathlib.Core.Bool.{cond}
 use mathlib.Core.List.{List, [], ◌∷◌, ◌++◌}
 use native.Mathlib.Numerals.{add-one}
 use native.Mathlib.Omega.{arith}
-use lib.ListN.{length, get_or, take, set}
+use lib.ListN.{length, get_or, take, drop, set}
+use lib.Seq.{take-add, drop-drop}
 use lib.Dec.{eqb, eqb-suc-suc, eqb-zero-suc, eqb-suc-zero}
-use Rattle.std.proofs.Math.Nat.{suc-min-suc}
+use Rattle.std.proofs.Math.Nat.{suc-min-suc, mul-zero, mul-suc}
+use Rattle.std.specs.List.{flat_map}
 use Rattle.lists.specs.Table.{table}
 
 module _ {A : Type 0} where
@@ -58,3 +60,14 @@ module _ {A : Type 0} where
       rw (set_table n (λ j. f (suc j)) i v, eqb-zero-suc)
       (ap (λ (l : List A). f 0 ∷ l)
       (table_ext n (λ j. cond (eqb j i) v (f (suc j))) (λ j. cond (eqb (suc j) (suc i)) v (f (suc j))) (λ j h. rw eqb-suc-suc)))
+
+-- as many pieces of k as a table has values are the front of a list
+pub pieces : (k n : ℕ) (t : List ℕ) {A : Type 0} (piece : A → List ℕ) (f : ℕ → A) → ((i : ℕ) → i < n → piece (f i) ≡ take k (drop (k * i) t))
+    → flat_map piece (table n f) ≡ take (k * n) t
+unfolding table
+pieces k zero t piece f h = rw mul-zero refl
+pieces k (suc n) t piece f h =
+    let p : piece (f 0) ≡ take k t = rw mul-zero at (h 0 (omega arith)) in
+    let q = pieces k n (drop k t) piece (λ i. f (suc i)) (λ i l. h (suc i) (omega arith) ∙ rw (mul-suc, drop-drop (k * i) k t) (ap (λ j. take k (drop j t)) (omega arith))) in
+    let e : k * suc n ≡ k + k * n = mul-suc k n ∙ omega arith in
+    rw (p, q, e) (sym (take-add k (k * n) t))

@@ -1,6 +1,6 @@
 -- No plainer: named by `using`, the law does not prove this, since it speaks of an output that the goal does not name.
 use Rattle.std.proofs.Common.{rules}
-use Rattle.library.proofs.Writings.{parts_more}
+use Rattle.lists.proofs.Puts.{parts_more}
 use Rattle.library.proofs.put_kinds.Goals as goal
 
 pub loop-entry-preserved : goal.loop-entry-preserved
