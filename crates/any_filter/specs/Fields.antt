@@ -1,5 +1,7 @@
 -- A filter as its type and a row of eight numbers: the fields in the order of their declaration, zeros behind.
-use Rattle.std.specs.Prelude.{ℕ, ◌-◌, ◌≡◌, List, ◌++◌, Float, replicate}
+use Rattle.std.specs.Prelude.{ℕ, ◌-◌, ◌≡◌, List, [], ◌∷◌, ◌++◌, Float, get_or, map, replicate, Option, None, Some}
+use Rattle.std.specs.Float.{binary32}
+use Rattle.std.specs.Float.Ieee.{of_bits, to_bits}
 use Rattle.filter_core.specs.Arithmetic.{zeroᶠ}
 use Rattle.dc_blocker.specs.Fields.{dc_from, dc_fields}
 use Rattle.one_pole.specs.Fields.{one_pole_from, one_pole_fields}
@@ -21,6 +23,21 @@ type_number type.Svf = 3
 type_number type.NaiveSvf = 4
 type_number type.ModifiedSvf = 5
 type_number type.CrossoverSvf = 6
+
+-- the type with a number; 0 and those above 6 are no type's
+abbrev pub type_numbered : ℕ → Option FilterType
+type_numbered n =
+    get_or
+    (None
+    ∷ Some type.DcBlocker
+    ∷ Some type.OnePole
+    ∷ Some type.Svf
+    ∷ Some type.NaiveSvf
+    ∷ Some type.ModifiedSvf
+    ∷ Some type.CrossoverSvf
+    ∷ [])
+    n
+    None
 
 abbrev pub field_count : FilterType → ℕ
 field_count type.DcBlocker = 3
@@ -49,6 +66,14 @@ filter_from type.Svf v = Svf (svf_from v)
 filter_from type.NaiveSvf v = NaiveSvf (naive_from v)
 filter_from type.ModifiedSvf v = ModifiedSvf (modified_from v)
 filter_from type.CrossoverSvf v = CrossoverSvf (passes_of (crossover.crossover_from v))
+
+-- the fields as words of binary32, and the filter of such words
+
+abbrev pub words_of : Filter → List ℕ
+words_of f = map (to_bits binary32) (fields_of f)
+
+abbrev pub filter_of_words : FilterType → List ℕ → Filter
+filter_of_words k w = filter_from k (map (of_bits binary32) w)
 
 -- a filter comes back from its type and its fields
 abbrev pub FieldsReturn : Type 0

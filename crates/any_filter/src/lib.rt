@@ -3,7 +3,7 @@
 
 ghost use Rattle.std.specs.Prelude.{◌≡◌, ◌≤◌};
 ghost use Rattle.any_filter.specs.Cases.{passes_of, crossover_from, type_of, rested};
-ghost use Rattle.any_filter.specs.Fields.{type_number, field_count, padded, fields_of, filter_from, FieldsReturn};
+ghost use Rattle.any_filter.specs.Fields.{type_number, type_numbered, field_count, padded, fields_of, filter_from, words_of, filter_of_words, FieldsReturn};
 ghost use Rattle.any_filter.specs.Rest.{RestClears};
 
 use crossover_svf::CrossoverSvf;
@@ -89,6 +89,21 @@ impl From<FilterType> for u8 {
 }
 
 impl FilterType {
+    // The type with a number; 0 and those above 6 are no type's.
+    pub fn of_number(n: u8) -> Option<FilterType>
+        ensures { result ≡ type_numbered n }
+    {
+        match n {
+            1 => Some(FilterType::DcBlocker),
+            2 => Some(FilterType::OnePole),
+            3 => Some(FilterType::Svf),
+            4 => Some(FilterType::NaiveSvf),
+            5 => Some(FilterType::ModifiedSvf),
+            6 => Some(FilterType::CrossoverSvf),
+            _ => None,
+        }
+    }
+
     // How many fields the type has; eight at most.
     pub fn field_count(self) -> usize
         ensures { result ≡ field_count self }
@@ -152,6 +167,20 @@ impl Filter {
             FilterType::ModifiedSvf => Filter::ModifiedSvf([v[0], v[1], v[2], v[3], v[4]].into()),
             FilterType::CrossoverSvf => Filter::CrossoverSvf(CrossoverSvf::from(v).into()),
         }
+    }
+
+    // The fields as words of binary32: what is saved of a filter, and shown of it.
+    pub fn words(&self) -> [u32; 8]
+        ensures { result ≡ words_of self.now }
+    {
+        self.fields().map(words::f32_to_word)
+    }
+
+    // The filter of a type with these words.
+    pub fn of_words(filter: FilterType, w: [u32; 8]) -> Filter
+        ensures { result ≡ filter_of_words filter w }
+    {
+        Filter::of_fields(filter, w.map(words::word_to_f32))
     }
 
     // Clears what the filter retains of past samples: the type's own reset; of the DC blocker, which has none, x and y become 0; of the
