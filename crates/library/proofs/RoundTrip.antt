@@ -10,7 +10,8 @@ use Rattle.std.specs.Prelude.{Some, slice_get}
 use Rattle.std.proofs.lemmas.Option.{slice_get-get_or}
 use Rattle.std.specs.List.{flat_map}
 use Rattle.lists.specs.Table.{table}
-use Rattle.lists.proofs.Tables.{length_table, get_or_table, pieces}
+use Rattle.lists.proofs.Pieces.{pieces}
+use Rattle.lists.proofs.Tables.{length_table, get_or_table}
 use Rattle.lists.proofs.Over.{over_all}
 use Rattle.sheets.specs.Sheet.{entries_of, edition_in, Fits, Sized, entry_in}
 use Rattle.sheets.specs.Rows.{Sheet}

@@ -1,3 +1,4 @@
 pub mod Over
+pub mod Pieces
 pub mod Puts
 pub mod Tables

@@ -6,7 +6,7 @@ use native.Mathlib.Omega.{arith}
 use lib.ListN.{length, get_or, take, length-append}
 use Rattle.std.proofs.lemmas.List.{take_more, flat_map_more}
 use Rattle.std.specs.List.{flat_map}
-use Rattle.lists.specs.Over.{over, Puts}
+use Rattle.lists.specs.Over.{Puts}
 use Rattle.lists.proofs.Over.{over_behind, length_over}
 
 -- one after the other is both at once

@@ -1,15 +1,15 @@
--- The laws of `table`, the list of a function's first values, and the pieces of a list. Assumes nothing.
-use Prim.Native.Nat.{ℕ, zero, suc, ◌+◌, ◌*◌, ◌<◌, min}
-use mathlib.Core.Path.{◌≡◌, refl, sym, ap, ◌∙◌}
+-- The laws of `table`, the list of a function's first values. Assumes nothing.
+use Prim.Native.Nat.{ℕ, zero, suc, ◌+◌, ◌<◌, min}
+use mathlib.Core.Path.{◌≡◌, refl, ap}
 use mathlib.Core.Bool.{cond}
 use mathlib.Core.List.{List, [], ◌∷◌, ◌++◌}
 use native.Mathlib.Numerals.{add-one}
 use native.Mathlib.Omega.{arith}
-use lib.ListN.{length, get_or, take, drop, set}
-use lib.Seq.{take-add, drop-drop}
+use lib.ListN.{length, get_or, take, set}
 use lib.Dec.{eqb, eqb-suc-suc, eqb-zero-suc, eqb-suc-zero}
-use Rattle.std.proofs.Math.Nat.{suc-min-suc, mul-zero, mul-suc}
-use Rattle.std.specs.List.{flat_map}
+use Rattle.std.proofs.Math.Nat.{suc-min-suc}
+use Rattle.std.specs.List.{All}
+use Rattle.std.proofs.lemmas.List.Elements.{All-nil, All-cons}
 use Rattle.lists.specs.Table.{table}
 
 module _ {A : Type 0} where
@@ -31,6 +31,21 @@ module _ {A : Type 0} where
       let p = h 0 (omega arith) in
       let q = table_ext n (λ j. f (suc j)) (λ j. g (suc j)) (λ i l. h (suc i) (omega arith)) in
       cc
+
+  -- a list is the table of its elements
+  pub table_is : (l : List A) (f : ℕ → A) (d : A) → ((i : ℕ) → i < length l → f i ≡ get_or l i d) → table (length l) f ≡ l
+  unfolding table
+  table_is [] f d h = refl
+  table_is (x ∷ l) f d h =
+      let p = h 0 (omega arith) in
+      let q = table_is l (λ j. f (suc j)) d (λ i k. h (suc i) (omega arith)) in
+      cc
+
+  -- what holds of each value
+  pub all_table : (P : A → Type 0) (n : ℕ) (f : ℕ → A) → ((i : ℕ) → i < n → P (f i)) → All P (table n f)
+  unfolding table
+  all_table P zero f h = All-nil P
+  all_table P (suc n) f h = All-cons P (f 0) (table n (λ i. f (suc i))) (h 0 (omega arith)) (all_table P n (λ i. f (suc i)) (λ i l. h (suc i) (omega arith)))
 
   table_suc : (n : ℕ) (f : ℕ → A) → table (suc n) f ≡ table n f ++ f n ∷ []
   unfolding table
@@ -60,14 +75,3 @@ module _ {A : Type 0} where
       rw (set_table n (λ j. f (suc j)) i v, eqb-zero-suc)
       (ap (λ (l : List A). f 0 ∷ l)
       (table_ext n (λ j. cond (eqb j i) v (f (suc j))) (λ j. cond (eqb (suc j) (suc i)) v (f (suc j))) (λ j h. rw eqb-suc-suc)))
-
--- as many pieces of k as a table has values are the front of a list
-pub pieces : (k n : ℕ) (t : List ℕ) {A : Type 0} (piece : A → List ℕ) (f : ℕ → A) → ((i : ℕ) → i < n → piece (f i) ≡ take k (drop (k * i) t))
-    → flat_map piece (table n f) ≡ take (k * n) t
-unfolding table
-pieces k zero t piece f h = rw mul-zero refl
-pieces k (suc n) t piece f h =
-    let p : piece (f 0) ≡ take k t = rw mul-zero at (h 0 (omega arith)) in
-    let q = pieces k n (drop k t) piece (λ i. f (suc i)) (λ i l. h (suc i) (omega arith) ∙ rw (mul-suc, drop-drop (k * i) k t) (ap (λ j. take k (drop j t)) (omega arith))) in
-    let e : k * suc n ≡ k + k * n = mul-suc k n ∙ omega arith in
-    rw (p, q, e) (sym (take-add k (k * n) t))

@@ -1,0 +1,4 @@
+pub mod Rows
+pub mod Bytes
+pub mod RoundTrip
+pub mod Judged
