@@ -21,7 +21,7 @@ use Rattle.loads.specs.Load.{filter_for, filter_of}
 use Rattle.any_filter.proofs.Binary32.{FieldsHeld}
 use Rattle.loads.proofs.Rest.{either}
 
--- Exact's is negated, or a quotient
+-- each is a product, but that of Exact can be a quotient or be negated
 tan_held : (f : Float) (m : FrequencyApproximation) → IsBinary32 (tan_of f m)
 tan_held f Exact = search (mul-fits, div-fits, neg-fits, cond-fits)
 tan_held f Accurate = search mul-fits
