@@ -1,1 +1,2 @@
 pub mod Laws
+pub mod Binary32

@@ -1,3 +1,4 @@
 pub mod Cases
 pub mod Fields
 pub mod Rest
+pub mod Binary32

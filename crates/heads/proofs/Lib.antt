@@ -4,3 +4,4 @@ pub mod Rows
 pub mod Refused
 pub mod Rest
 pub mod Follows
+pub mod Binary32

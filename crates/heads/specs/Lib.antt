@@ -6,3 +6,4 @@ pub mod Follows
 pub mod Rows
 pub mod Rest
 pub mod Counts
+pub mod Binary32

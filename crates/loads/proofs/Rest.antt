@@ -23,16 +23,16 @@ abbrev Still : Filter → Type 0
 Still f = rested f ≡ f
 
 -- whether its number refuses it or not
-set_still : {S : Type 0} (of : S → Filter) (n : ℕ) (new set : S) → Still (of new) → Still (of set) → Still (of (unless_refused n new set))
-set_still of n new set p q = cond_both (eqb n 0) set new (λ s. Still (of s)) (λ e. q) (λ e. p)
+pub either : {S : Type 0} (P : Filter → Type 0) (of : S → Filter) (n : ℕ) (new set : S) → P (of new) → P (of set) → P (of (unless_refused n new set))
+either P of n new set p q = cond_both (eqb n 0) set new (λ s. P (of s)) (λ e. q) (λ e. p)
 
 still : (s : Setter) (a b c : Float) → Still (filter_for s a b c)
 unfolding filter_for
 still DcBlocker a b c = refl
-still (OnePole p) a b c = set_still type.OnePole (frequency_refusal a p) one_pole_new (one_pole_set_f one_pole_new a p) refl refl
-still (SvfFrequency p) a b c = set_still type.Svf (frequency_refusal a p) svf_new (svf_set_f_q svf_new a b p) refl refl
+still (OnePole p) a b c = either Still type.OnePole (frequency_refusal a p) one_pole_new (one_pole_set_f one_pole_new a p) refl refl
+still (SvfFrequency p) a b c = either Still type.Svf (frequency_refusal a p) svf_new (svf_set_f_q svf_new a b p) refl refl
 still SvfCoefficients a b c = refl
-still (NaiveSvf p) a b c = set_still type.NaiveSvf (frequency_refusal a p) naive_new (naive_set_f_q naive_new a b p) refl refl
+still (NaiveSvf p) a b c = either Still type.NaiveSvf (frequency_refusal a p) naive_new (naive_set_f_q naive_new a b p) refl refl
 still ModifiedSvf a b c = refl
 still CrossoverSvf a b c = refl
 

@@ -1,3 +1,5 @@
 pub mod Rows
+pub mod Steps
 pub mod Kept
+pub mod Binary32
 pub mod Ran
