@@ -1,2 +1,3 @@
 pub mod Laws
 pub mod Binary32
+pub mod Words

@@ -1,7 +1,5 @@
 -- A filter as its type and a row of eight numbers: the fields in the order of their declaration, zeros behind.
-use Rattle.std.specs.Prelude.{ℕ, ◌-◌, ◌≡◌, List, [], ◌∷◌, ◌++◌, Float, get_or, map, replicate, Option, None, Some}
-use Rattle.std.specs.Float.{binary32}
-use Rattle.std.specs.Float.Ieee.{of_bits, to_bits}
+use Rattle.std.specs.Prelude.{ℕ, ◌-◌, ◌≡◌, List, [], ◌∷◌, ◌++◌, Float, get_or, replicate, Option, None, Some}
 use Rattle.filter_core.specs.Arithmetic.{zeroᶠ}
 use Rattle.dc_blocker.specs.Fields.{dc_from, dc_fields}
 use Rattle.one_pole.specs.Fields.{one_pole_from, one_pole_fields}
@@ -66,14 +64,6 @@ filter_from type.Svf v = Svf (svf_from v)
 filter_from type.NaiveSvf v = NaiveSvf (naive_from v)
 filter_from type.ModifiedSvf v = ModifiedSvf (modified_from v)
 filter_from type.CrossoverSvf v = CrossoverSvf (passes_of (crossover.crossover_from v))
-
--- the fields as words of binary32, and the filter of such words
-
-abbrev pub words_of : Filter → List ℕ
-words_of f = map (to_bits binary32) (fields_of f)
-
-abbrev pub filter_of_words : FilterType → List ℕ → Filter
-filter_of_words k w = filter_from k (map (of_bits binary32) w)
 
 -- a filter comes back from its type and its fields
 abbrev pub FieldsReturn : Type 0
