@@ -5,19 +5,21 @@ use mathlib.Core.List.{List, [], ◌∷◌, ◌++◌}
 use mathlib.Core.Logic.{⊎_elim}
 use native.Mathlib.Omega.{arith}
 use lib.ListN.{length, get_or, take, drop, length-append, length-take, length-drop, take-append-drop}
-use lib.Seq.{take_all, take-add, drop-cons, drop-drop}
+use lib.Seq.{take-append_seam, take_all, take-add, drop-cons, drop-drop}
 use Rattle.std.specs.Prelude.{replicate}
-use Rattle.std.specs.Int.{w16, w32, to_le_bytes, from_le_bytes}
+use Rattle.std.specs.Int.{w16, w32, to_le_bytes}
 use Rattle.std.specs.List.{All, flat_map}
 use Rattle.std.proofs.Math.ListN.{get_or-append}
 use Rattle.std.proofs.lemmas.Bool.{cases_lt}
 use Rattle.std.proofs.lemmas.List.{get_or-append-add, get_or-drop, get_or-take, get_or_past}
-use Rattle.std.proofs.lemmas.List.Elements.{All-get_or, All-weaker, All-from_get_or}
-use Rattle.std.proofs.lemmas.Nat.{le_bytes_4, from_le_bytes-to_le_bytes_4}
+use Rattle.std.proofs.lemmas.List.Elements.{All-from_recursion, All-nil, All-head, All-tail, All-append, All-get_or, All-weaker}
+use Rattle.std.proofs.lemmas.Nat.{le_bytes_4}
 use Rattle.lists.specs.Table.{table}
 use Rattle.lists.proofs.Tables.{length_table, table_is, all_table}
+use Rattle.lists.specs.Over.{over}
+use Rattle.lists.proofs.Over.{over_all}
 use Rattle.lists.proofs.Pieces.{pieces, length_pieces, get_or_piece}
-use Rattle.words.specs.Word.{word_of, word_from}
+use Rattle.words.specs.Word.{word_from}
 use Rattle.saved_heads.specs.Bytes.{tag_bytes, record_bytes, rows_bytes, rows_said, record_place, row_at, rows_in}
 use Rattle.saved_heads.specs.declared.Row.{Row}
 
@@ -96,6 +98,22 @@ word_small b q h =
 pub zero_row : Row
 zero_row = record { head = 0; filter = 0; words = replicate 8 0; count = 0 }
 
+-- how long they are
+pub long_written : (rs : List Row) → All (λ (r : Row). length r.words ≡ 8) rs → length (rows_bytes rs) ≡ 2 + 38 * length rs
+long_written rs h =
+    let t = length_pieces 2 tag_bytes rs (two_long rs) in
+    let r = length_pieces 36 record_bytes rs (All-weaker (λ (r : Row). length r.words ≡ 8) (λ (r : Row). length (record_bytes r) ≡ 36) record_long rs h) in
+    let e = length-append (flat_map tag_bytes rs) (flat_map record_bytes rs) in
+    omega arith
+
+-- written where there is room, they are what stands in front
+pub written_front : (rs : List Row) {n : ℕ} (out : List ℕ) {xs : List ℕ} → All (λ (r : Row). length r.words ≡ 8) rs → length rs ≤ 60 → length out ≡ 2282 → n ≡ length rs
+    → xs ≡ over 0 (rows_bytes rs) out → take (2 + 38 * n) xs ≡ rows_bytes rs
+written_front rs {n} out {xs} h few room e w =
+    let l = long_written rs h in
+    let k : 2 + 38 * n ≡ length (rows_bytes rs) = omega arith in
+    rw (w, k, over_all (rows_bytes rs) out (omega arith)) (take-append_seam (rows_bytes rs) (drop (length (rows_bytes rs)) out))
+
 module _ (rs : List Row) (few : length rs ≤ 60) (shaped : All Shaped rs) where
   abbrev b : List ℕ
   b = rows_bytes rs
@@ -118,16 +136,9 @@ module _ (rs : List Row) (few : length rs ≤ 60) (shaped : All Shaped rs) where
   pub records_long : All (λ (r : Row). length (record_bytes r) ≡ 36) rs
   records_long = All-weaker Shaped (λ (r : Row). length (record_bytes r) ≡ 36) (λ r s. record_long r s.eight) rs shaped
 
-  -- how many are said, and the length
+  -- how many are said
   pub said_written : rows_said b ≡ length rs
   said_written = omega arith
-
-  pub long_written : length b ≡ 2 + 38 * length rs
-  long_written =
-      let t = long_tags in
-      let r = length_pieces 36 record_bytes rs records_long in
-      let e = length-append tags records in
-      omega arith
 
   behind_two : (k : ℕ) → get_or b (2 + k) 0 ≡ get_or (tags ++ records) k 0
   behind_two k = get_or-append-add (to_le_bytes w16 (length rs)) (tags ++ records) k 0
@@ -180,8 +191,8 @@ module _ (rs : List Row) (few : length rs ≤ 60) (shaped : All Shaped rs) where
       let h : get_or b (2 + 2 * i) 0 ≡ (row i).head = ap (λ (k : ℕ). get_or b k 0) {x = 2 + 2 * i} {y = 2 + 2 * i + 0} (omega arith) ∙ tag_at i 0 l (omega arith) in
       let f : get_or b (2 + 2 * i + 1) 0 ≡ (row i).filter = tag_at i 1 l (omega arith) in
       let w : table 8 (λ j. word_from b (record_place b i + 4 * j)) ≡ (row i).words =
-          ap (λ (n : ℕ). table n (λ j. word_from b (record_place b i + 4 * j))) (sym s.eight)
-          ∙ table_is (row i).words (λ j. word_from b (record_place b i + 4 * j)) 0 (λ j k. word_in i j l (rw (← s.eight) k)) in
+      ap (λ (n : ℕ). table n (λ j. word_from b (record_place b i + 4 * j))) (sym s.eight)
+      ∙ table_is (row i).words (λ j. word_from b (record_place b i + 4 * j)) 0 (λ j k. word_in i j l (rw (← s.eight) k)) in
       rw (h, f, w, count_in i l) refl
 
   pub rows_read : rows_in b ≡ rs
@@ -189,25 +200,22 @@ module _ (rs : List Row) (few : length rs ≤ 60) (shaped : All Shaped rs) where
 
 -- ---- bytes that are read are written back
 
+pub shaped_at : (b : List ℕ) → AreBytes b → (i : ℕ) → Shaped (row_at b i)
+unfolding row_at
+shaped_at b small i =
+    let p = record_place b i in
+    record {
+      eight = length_table 8 (λ j. word_from b (p + 4 * j));
+      small = all_table Small 8 (λ j. word_from b (p + 4 * j)) (λ j l. word_small b (p + 4 * j) small);
+      count = word_small b (p + 32) small;
+    }
+
 module _ (b : List ℕ) (small : AreBytes b) (long : length b ≡ 2 + 38 * rows_said b) (few : rows_said b ≤ 60) where
   abbrev n : ℕ
   n = rows_said b
 
   length_rows : length (rows_in b) ≡ n
   length_rows = length_table n (row_at b)
-
-  shaped_at : (i : ℕ) → Shaped (row_at b i)
-  unfolding row_at
-  shaped_at i =
-      let p = record_place b i in
-      record {
-        eight = length_table 8 (λ j. word_from b (p + 4 * j));
-        small = all_table Small 8 (λ j. word_from b (p + 4 * j)) (λ j l. word_small b (p + 4 * j) small);
-        count = word_small b (p + 32) small;
-      }
-
-  pub rows_shaped : All Shaped (rows_in b)
-  rows_shaped = all_table Shaped n (row_at b) (λ i l. shaped_at i)
 
   tag_back : (i : ℕ) → i < n → tag_bytes (row_at b i) ≡ take 2 (drop (2 + 2 * i) b)
   unfolding row_at
@@ -226,7 +234,7 @@ module _ (b : List ℕ) (small : AreBytes b) (long : length b ≡ 2 + 38 * rows_
       let p = record_place b i in
       let x = drop p b in
       let w : flat_map le (table 8 (λ j. word_from b (p + 4 * j))) ≡ take 32 x =
-          pieces 4 8 x le (λ j. word_from b (p + 4 * j)) (λ j k. bytes_at_place b (p + 4 * j) small (omega arith) ∙ ap (take 4) (sym (drop-drop (4 * j) p b))) in
+      pieces 4 8 x le (λ j. word_from b (p + 4 * j)) (λ j k. bytes_at_place b (p + 4 * j) small (omega arith) ∙ ap (take 4) (sym (drop-drop (4 * j) p b))) in
       let c : le (word_from b (p + 32)) ≡ take 4 (drop 32 x) = bytes_at_place b (p + 32) small (omega arith) ∙ ap (take 4) (sym (drop-drop 32 p b)) in
       rw (w, c) (sym (take-add 32 4 x))
 
@@ -244,3 +252,37 @@ module _ (b : List ℕ) (small : AreBytes b) (long : length b ≡ 2 + 38 * rows_
       let y : n / 256 % 256 ≡ get_or b 1 0 = omega arith in
       let two : b ≡ get_or b 0 0 ∷ get_or b 1 0 ∷ drop 2 b = drop-cons b 0 0 (omega arith) ∙ ap (λ (l : List ℕ). get_or b 0 0 ∷ l) (drop-cons b 1 0 (omega arith)) in
       rw (length_rows, tags_back, records_back, d, take-append-drop (2 * n) (drop 2 b), x, y) (sym two)
+
+-- ---- what is written are bytes
+
+abbrev Below : ℕ → Type 0
+Below n = n < 256
+
+le_below : (n : ℕ) → All Below (le n)
+le_below n = All-from_recursion Below (le n) (omega arith, (omega arith, (omega arith, (omega arith, tt))))
+
+joined_below : {A : Type 0} (piece : A → List ℕ) (xs : List A) → All (λ (x : A). All Below (piece x)) xs → All Below (flat_map piece xs)
+joined_below piece [] h = All-nil Below
+joined_below {A} piece (x ∷ xs) h =
+    All-append Below (piece x) (flat_map piece xs) (All-head (λ (x : A). All Below (piece x)) x xs h) (joined_below piece xs (All-tail (λ (x : A). All Below (piece x)) x xs h))
+
+-- a tag's two
+pub record Tagged (r : Row) : Type 0 where
+  pub head : r.head < 256
+  pub filter : r.filter < 256
+
+tag_below : (r : Row) → Tagged r → All Below (tag_bytes r)
+tag_below r t = All-from_recursion Below (tag_bytes r) (t.head, (t.filter, tt))
+
+record_below : (r : Row) → All Below (record_bytes r)
+record_below r = All-append Below (flat_map le r.words) (le r.count) (joined_below le r.words (λ i d l. le_below (get_or r.words i d))) (le_below r.count)
+
+pub written_below : (rs : List Row) → All Tagged rs → AreBytes (rows_bytes rs)
+written_below rs t i = ⊎_elim (λ l. All-get_or Below (rows_bytes rs) i 0 l all) (λ l. rw (get_or_past (rows_bytes rs) i 0 l) (omega arith)) (cases_lt i (length (rows_bytes rs)))
+  where
+    all : All Below (rows_bytes rs)
+    all =
+        All-append Below (to_le_bytes w16 (length rs)) (flat_map tag_bytes rs ++ flat_map record_bytes rs) (All-from_recursion Below (to_le_bytes w16 (length rs)) (omega arith, (omega arith, tt)))
+        (All-append Below (flat_map tag_bytes rs) (flat_map record_bytes rs)
+        (joined_below tag_bytes rs (All-weaker Tagged (λ (r : Row). All Below (tag_bytes r)) tag_below rs t))
+        (joined_below record_bytes rs (λ i d l. record_below (get_or rs i d))))

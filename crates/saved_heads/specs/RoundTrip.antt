@@ -1,8 +1,7 @@
 -- Heads and their saved form come back from each other (02 k).
-use Rattle.std.specs.Prelude.{ℕ, ⊤, ◌≤◌, ◌≡◌, List, [], length, Option, None, Some}
+use Rattle.std.specs.Prelude.{ℕ, ◌≤◌, ◌≡◌, List, [], length, None, IfSome}
 use Rattle.std.specs.List.{All}
 use Rattle.any_filter.specs.Binary32.{HeldByBinary32}
-use Rattle.any_filter.specs.declared.Filter.{Filter}
 use Rattle.heads.specs.Snapshot.{greatest_count}
 use Rattle.heads.specs.declared.Snapshot.{Snapshot}
 use Rattle.heads.specs.declared.Head.{Head}
@@ -12,13 +11,9 @@ use Rattle.saved_heads.specs.Rules.{Saved}
 
 -- ---- what every head keeps that calls lead to
 
--- the numbers of a filter are those of binary32, as all are that a program holds
-abbrev pub Held : Option Filter → Type 0
-Held None = ⊤
-Held (Some f) = HeldByBinary32 f
-
 pub record KeptSnapshot (s : Snapshot) : Type 0 where
-  pub held : Held s.filter
+  -- binary32 holds the filter's numbers, as it does all that a program has
+  pub held : IfSome s.filter HeldByBinary32
   pub small : s.count ≤ greatest_count
   pub no_count : s.filter ≡ None → s.count ≡ 0
 

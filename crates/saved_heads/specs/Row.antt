@@ -1,7 +1,8 @@
 -- A row of a saved frame (02 k), which is a tag and its record, and the snapshot of a head that it stands for.
 use Rattle.std.specs.Prelude.{ℕ, List, replicate, Option, None, Some}
 use Rattle.any_filter.specs.Cases.{type_of}
-use Rattle.any_filter.specs.Fields.{type_number, type_numbered, words_of, filter_of_words}
+use Rattle.any_filter.specs.Fields.{type_number, type_numbered}
+use Rattle.any_filter.specs.Words.{words_of, filter_of_words}
 use Rattle.any_filter.specs.declared.Filter.{Filter}
 use Rattle.any_filter.specs.declared.FilterType.{FilterType}
 use Rattle.heads.specs.Snapshot.{empty_snapshot, holds}

@@ -2,14 +2,14 @@
 // Bytes are accepted where the heads that they say are saved as the same bytes, so nothing here checks a rule of the form by itself.
 #![tactic(auto)]
 
-ghost use Rattle.std.specs.Prelude.{◌≡◌, ◌+◌, ◌≤◌, ◌++◌, length, replicate, IfOk};
+ghost use Rattle.std.specs.Prelude.{◌≡◌, ◌+◌, ◌≤◌, ◌++◌, length, replicate, bytes_eq, IfOk};
 ghost use Rattle.std.specs.Int.{w32, to_le_bytes};
 ghost use Rattle.std.specs.List.{flat_map};
 ghost use Rattle.filter_core.specs.Refusal.{number_in};
 ghost use Rattle.lists.specs.Over.{over, Puts};
 ghost use Rattle.heads.specs.Head.{empty_head};
 ghost use Rattle.saved_heads.specs.Row.{row_of, snapshot_in};
-ghost use Rattle.saved_heads.specs.Bytes.{tag_bytes, record_bytes, rows_bytes, rows_said, row_at, head_rows, rows_from, grown_head, with_row, heads_in};
+ghost use Rattle.saved_heads.specs.Bytes.{tag_bytes, record_bytes, rows_bytes, rows_said, row_at, head_rows, rows_from, bytes_of, grown_head, with_row, heads_in};
 ghost use Rattle.saved_heads.specs.Saved.{save_number, saved_length, saved_in, restore_refusal};
 ghost use Rattle.saved_heads.specs.RoundTrip.{RestoreByRules, HeadsReturn};
 
@@ -214,15 +214,23 @@ fn heads_in(bytes: &[u8]) -> [Head; 12]
     heads
 }
 
+// Whether the heads are saved as these bytes. 60 rows, and no heads have more, are 2,282 bytes.
+fn are_saved_as(heads: &[Head; 12], bytes: &[u8]) -> bool
+    ensures { result ≡ bytes_eq (bytes_of heads.now) bytes.now }
+{
+    let rows = rows_of(heads);
+    let mut saved = [0; 2282];
+    put_rows(rows.as_slice(), &mut saved);
+    &saved[..2 + 38 * rows.len()] == bytes
+}
+
 // The heads of a saved frame. What is none is refused.
 pub fn restore(bytes: &[u8]) -> Result<[Head; 12], Refusal>
     ensures refusal { number_in result ≡ restore_refusal bytes.now }
     ensures heads { IfOk result (λ heads. heads ≡ heads_in bytes.now) }
 {
     let heads = heads_in(bytes);
-    let mut again = [0; 2282];
-    let length = save(&heads, &mut again)?;
-    if &again[..length] == bytes {
+    if are_saved_as(&heads, bytes) {
         Ok(heads)
     } else {
         Err(Refusal::Frame)
