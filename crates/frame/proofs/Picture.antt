@@ -1,6 +1,6 @@
 -- A frame is the picture of its histories, and a call on a picture gives the picture of the call. Assumes nothing.
 use Prim.Native.Nat.{ℕ, ◌<◌}
-use mathlib.Core.Path.{◌≡◌, refl, ap, ◌∙◌}
+use mathlib.Core.Path.{◌≡◌, refl, sym, ap, ◌∙◌}
 use mathlib.Core.Bool.{Bool, true, false, cond}
 use mathlib.Core.List.{List, [], ◌∷◌}
 use native.Mathlib.Omega.{arith}
@@ -19,7 +19,14 @@ use Rattle.heads.specs.Snapshot.{loaded_with}
 use Rattle.heads.specs.Head.{empty_head, holding}
 use Rattle.heads.specs.History.{load_event, HeadHistory, act_number, adding, grown_by, advance_by, accepted_act, act_reply}
 use Rattle.heads.specs.Follows.{head_for}
-use Rattle.lists.proofs.Tables.{get_or_table, table_ext, set_table}
+use Rattle.heads.specs.Kept.{restored_history}
+use Rattle.heads.specs.declared.Head.{Head}
+use Rattle.lists.proofs.Tables.{get_or_table, table_ext, table_is, set_table}
+use Rattle.heads.proofs.Kept.{heads_kept}
+use Rattle.saved_heads.specs.Bytes.{heads_in}
+use Rattle.saved_heads.specs.Saved.{save_number, restore_refusal}
+use Rattle.saved_heads.proofs.Heads.{head_kept}
+use Rattle.saved_heads.proofs.RoundTrip.{heads_return}
 use Rattle.heads.proofs.Follows.{head_follows}
 use Rattle.saves.specs.Save.{with_left, begin_refusal, begin_of, take_refusal}
 use Rattle.saves.specs.Rows.{BeginCase, no_entries}
@@ -29,9 +36,9 @@ use Rattle.rota.specs.Call as rota
 use Rattle.rota.specs.History.{call_number as rota_number}
 use Rattle.rota.specs.Follows.{rota_for}
 use Rattle.rota.proofs.Follows.{rota_follows}
-use Rattle.frame.specs.Call.{Call, opening, writing, loading, at, beginning, taking, at_rota, plain, acted, of_rota}
-use Rattle.frame.specs.Calls.{with_head, settled, perform}
-use Rattle.frame.specs.History.{Histories, call_number, with_history, advance, reply_to}
+use Rattle.frame.specs.Call.{Call, opening, writing, loading, at, beginning, taking, at_rota, saving, restoring, plain, acted, of_rota}
+use Rattle.frame.specs.Calls.{with_head, with_heads, settled, perform}
+use Rattle.frame.specs.History.{Histories, heads_of, call_number, with_history, advance, reply_to}
 use Rattle.frame.proofs.Sound.{Sound}
 use Rattle.saves.specs.declared.Save.{Save}
 use Rattle.frame.specs.declared.Frame.{Frame}
@@ -168,6 +175,30 @@ follows_rota H c = go (eqb (rota_number H.rota c) 0) refl
         let t = rota_follows.refused H.rota c (eqb-false _ _ q) in
         rw (q, rota_follows.call H.rota c, t.1) (ap (λ r. record { reply = of_rota r; frame = frame_for H }) t.0)
 
+follows_save : (H : Histories) (out : List ℕ) → Follows H (saving out)
+unfolding perform reply_to advance call_number
+follows_save H out = go (eqb (save_number (heads_of H) out) 0) refl
+  where
+    go : (b : Bool) → eqb (save_number (heads_of H) out) 0 ≡ b → Follows H (saving out)
+    go true q = rw (q, eqb-true (save_number (heads_of H) out) 0 q)
+    go false q = rw q
+
+-- the restored heads are those of the histories that they open
+restored_heads : (b : List ℕ) → restore_refusal b ≡ 0 → heads_in b ≡ table 12 (λ h. head_for (restored_history (get_or (heads_in b) h empty_head)))
+restored_heads b q =
+    let k = heads_return.kept b q in
+    let xs = heads_in b in
+    let f : ℕ → Head = λ h. head_for (restored_history (get_or xs h empty_head)) in
+    sym (table_is xs f empty_head (λ i l. heads_kept.restored (get_or xs i empty_head) (head_kept xs k.heads i))) ∙ ap (λ (n : ℕ). table n f) k.twelve
+
+follows_restore : (H : Histories) (b : List ℕ) → Follows H (restoring b)
+unfolding perform reply_to advance call_number
+follows_restore H b = go (eqb (restore_refusal b) 0) refl
+  where
+    go : (t : Bool) → eqb (restore_refusal b) 0 ≡ t → Follows H (restoring b)
+    go true q = rw q (ap (λ (xs : List Head). record { reply = plain 0; frame = with_heads (frame_for H) xs }) (restored_heads b (eqb-true (restore_refusal b) 0 q)))
+    go false q = rw q
+
 pub follows : (H : Histories) (c : Call) → Sound H → Follows H c
 follows H (opening s) S = follows_open H s
 follows H (writing out) S = follows_write H out
@@ -176,3 +207,5 @@ follows H (at h a) S = follows_at H h a S
 follows H beginning S = follows_begin H S
 follows H (taking out) S = follows_take H out
 follows H (at_rota c) S = follows_rota H c
+follows H (saving out) S = follows_save H out
+follows H (restoring b) S = follows_restore H b

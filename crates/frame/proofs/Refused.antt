@@ -14,7 +14,8 @@ use Rattle.heads.proofs.Refused as head
 use Rattle.saves.proofs.Parts.{begin_refused, take_refused}
 use Rattle.rota.specs.Call as rota
 use Rattle.rota.proofs.Fairness.{fair}
-use Rattle.frame.specs.Call.{Call, opening, writing, loading, at, beginning, taking, at_rota, number_in, refused}
+use Rattle.saved_heads.specs.Saved.{save_number, restore_refusal}
+use Rattle.frame.specs.Call.{Call, opening, writing, loading, at, beginning, taking, at_rota, saving, restoring, number_in, refused}
 use Rattle.frame.specs.Calls.{head_at, Done, refuse, settled, rota_done, perform}
 use Rattle.frame.specs.Refused.{RefusedLeaves}
 use Rattle.frame.specs.declared.Frame.{Frame}
@@ -53,6 +54,14 @@ leaves_rota : (f : Frame) (c : rota.Call) → Leaves f (at_rota c) (perform f (a
 unfolding perform
 leaves_rota f c z = ap (rota_done f) (fair.refused f.rota c z)
 
+leaves_saved : (f : Frame) (out : List ℕ) → Leaves f (saving out) (perform f (saving out))
+unfolding perform
+leaves_saved f out = go (eqb (save_number f.heads out) 0) refl
+  where
+    go : (b : Bool) → eqb (save_number f.heads out) 0 ≡ b → Leaves f (saving out) (perform f (saving out))
+    go true q z = absurd (z (eqb-true _ _ q))
+    go false q z = rw q refl
+
 refused_number : (a : Act) → head_number (refused_act 1 a) ≡ 1
 refused_number (run form us ys) = refl
 refused_number (run_two form us ys zs) = refl
@@ -77,3 +86,6 @@ refused_leaves f (at h a) = either f (at h a) (ltb 11 h) _ _ (refusing f (at h a
 refused_leaves f beginning = leaves_begin f
 refused_leaves f (taking out) = leaves_take f out
 refused_leaves f (at_rota c) = leaves_rota f c
+refused_leaves f (saving out) = leaves_saved f out
+refused_leaves f (restoring b) =
+    either f (restoring b) (eqb (restore_refusal b) 0) _ _ (accepting f (restoring b) _ refl) (refusing f (restoring b) (restore_refusal b) refl)

@@ -1,11 +1,12 @@
 -- The numbers of the frame's calls, by their rows. Assumes nothing.
-use Prim.Native.Nat.{ℕ, ◌≤◌, ◌<◌}
-use mathlib.Core.List.{List, ◌∷◌}
+use Prim.Native.Nat.{ℕ, zero, suc, ◌≤◌, ◌<◌}
+use mathlib.Core.Path.{◌≡◌, refl, subst}
+use mathlib.Core.List.{List, [], ◌∷◌}
 use native.Mathlib.Omega.{arith}
 use borrow.Author.Tests.{ltb-true, ltb-false, leb-true, leb-false}
 use lib.Dec.{ltb, leb}
-use lib.ListN.{length}
-use Rattle.filter_core.specs.Rows.{First, none, here, later}
+use lib.ListN.{length, length-append, length-map}
+use Rattle.filter_core.specs.Rows.{First, none, here, later, Exactly}
 use Rattle.filter_core.proofs.Rows.{exactly, by_test}
 use Rattle.sheets.specs.Sheet.{entries_of}
 use Rattle.sheets.proofs.Rows.{checked}
@@ -17,9 +18,17 @@ use Rattle.heads.specs.Rows.{ActCase}
 use Rattle.heads.proofs.Rows.{head_by_rows}
 use Rattle.saves.proofs.Rows.{begin_row, take_row}
 use Rattle.rota.proofs.Rows.{rota_row}
-use Rattle.frame.specs.Call.{Call, opening, writing, loading, at, beginning, taking, at_rota}
-use Rattle.frame.specs.History.{Histories, no_histories, head_first, call_number, advance_all}
-use Rattle.frame.specs.Rows.{AtCase, no_head, of_head, LoadCase, no_entry, Row, NumbersByRows}
+use Rattle.lists.specs.Table.{table}
+use Rattle.heads.specs.History.{snapshot_of}
+use Rattle.heads.specs.Follows.{head_for}
+use Rattle.saved_heads.specs.Row.{row_of}
+use Rattle.saved_heads.specs.Bytes.{head_rows, rows_from}
+use Rattle.saved_heads.specs.Saved.{save_number}
+use Rattle.saved_heads.specs.Rows.{SaveCase}
+use Rattle.saved_heads.proofs.Judged.{saved_heads_by_rows}
+use Rattle.frame.specs.Call.{Call, opening, writing, loading, at, beginning, taking, at_rota, saving, restoring}
+use Rattle.frame.specs.History.{Histories, no_histories, heads_of, head_first, call_number, advance_all}
+use Rattle.frame.specs.Rows.{AtCase, no_head, of_head, LoadCase, no_entry, row_count, Row, NumbersByRows}
 use Rattle.frame.proofs.Sound.{Sound, sound_all, sound_none}
 
 -- the cases of a call at the head h, from its own
@@ -51,6 +60,20 @@ not_head (back m) p = elim p [ ]
 not_head (drop m) p = elim p [ ]
 not_head count p = elim p [ ]
 
+-- the rows of the heads of some histories
+rows_counted : (n h : ℕ) (g : ℕ → HeadHistory) → length (rows_from h (table n (λ i. head_for (g i)))) ≡ row_count n g
+unfolding rows_from table row_count
+rows_counted zero h g = refl
+rows_counted (suc n) h g =
+    let e = rows_counted n (suc h) (λ i. g (suc i)) in
+    let x = head_for (g 0) in
+    omega (
+      arith,
+      length-append (head_rows h x) (rows_from (suc h) (table n (λ i. head_for (g (suc i))))),
+      length-map (x.now ∷ x.marks.items) (row_of h),
+      length-map (g 0).checkpoints snapshot_of,
+    )
+
 row : (H : Histories) (c : Call) → Sound H → Row H c (call_number H c)
 unfolding call_number
 row H (opening s) S = (checked s).sheets
@@ -63,6 +86,10 @@ row H (at h a) S = exactly (by_head (not_head a) (head_by_rows (H.heads h) a (S.
 row H beginning S = exactly (begin_row (length H.left) (library_of H.sheet) (entries_of H.sheet) S.sheet.held)
 row H (taking out) S = exactly (take_row (length H.left))
 row H (at_rota c) S = rota_row H.rota c
+row H (saving out) S =
+    subst (λ (n : ℕ). Exactly (SaveCase n (length out)) (12 ∷ []) (save_number (heads_of H) out)) (rows_counted 12 0 H.heads)
+    (saved_heads_by_rows.saves (heads_of H) out)
+row H (restoring b) S = saved_heads_by_rows.restores b
 
 pub numbers_by_rows : NumbersByRows
 unfolding NumbersByRows

@@ -6,6 +6,7 @@ use mathlib.Core.List.{List, [], ◌∷◌}
 use native.Mathlib.Omega.{arith}
 use borrow.Author.Tests.{eqb-true}
 use lib.Dec.{eqb, ltb}
+use lib.ListN.{get_or}
 use Rattle.sheets.specs.Sheet.{entries_of, entry_in, check_of}
 use Rattle.sheets.specs.Rows.{Sheet}
 use Rattle.sheets.proofs.Rows.{check_sheet}
@@ -14,8 +15,15 @@ use Rattle.library.specs.Rows.{Held, nothing, of_sheet}
 use Rattle.library.proofs.RoundTrip.{same_entries, no_sheet}
 use Rattle.heads.specs.History.{HeadHistory, act_number}
 use Rattle.heads.specs.Follows.{SoundHead}
+use Rattle.heads.specs.Head.{empty_head}
+use Rattle.heads.specs.Kept.{restored_history}
 use Rattle.heads.proofs.Sound as head
-use Rattle.frame.specs.Call.{Call, opening, writing, loading, at, beginning, taking, at_rota}
+use Rattle.heads.proofs.Kept.{heads_kept}
+use Rattle.saved_heads.specs.Bytes.{heads_in}
+use Rattle.saved_heads.specs.Saved.{restore_refusal}
+use Rattle.saved_heads.proofs.Heads.{head_kept}
+use Rattle.saved_heads.proofs.RoundTrip.{heads_return}
+use Rattle.frame.specs.Call.{Call, opening, writing, loading, at, beginning, taking, at_rota, saving, restoring}
 use Rattle.frame.specs.History.{Histories, no_histories, head_first, call_number, with_history, grown, advance, advance_all}
 
 -- the library is that of a sheet, or none, and its entries are the sheet's; where there are some, it is a sheet
@@ -46,6 +54,10 @@ past_head h n q = go (ltb 11 h) q
     go true q = absurd (omega arith)
     go false q = q
 
+-- each head of an accepted restore opens a sound history
+sound_restored : (b : List ℕ) → restore_refusal b ≡ 0 → (h : ℕ) → SoundHead (restored_history (get_or (heads_in b) h empty_head))
+sound_restored b q h = heads_kept.sound (get_or (heads_in b) h empty_head) (head_kept (heads_in b) (heads_return.kept b q).heads h)
+
 sound_accepted : (H : Histories) (c : Call) → Sound H → call_number H c ≡ 0 → Sound (grown H c)
 unfolding call_number
 sound_accepted H (opening s) S q = record { sheet = sound_open s q; each = S.each }
@@ -56,6 +68,8 @@ sound_accepted H (at h a) S q =
 sound_accepted H beginning S q = record { sheet = S.sheet; each = S.each }
 sound_accepted H (taking out) S q = record { sheet = S.sheet; each = S.each }
 sound_accepted H (at_rota c) S q = record { sheet = S.sheet; each = S.each }
+sound_accepted H (saving out) S q = S
+sound_accepted H (restoring b) S q = record { sheet = S.sheet; each = sound_restored b q }
 
 pub sound_advance : (H : Histories) (c : Call) → Sound H → Sound (advance H c)
 unfolding advance

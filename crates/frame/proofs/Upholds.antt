@@ -1,15 +1,12 @@
 -- Demand 3, over whole lists of calls: from the picture of any sound histories, of which a fresh frame is one. Assumes nothing.
-use mathlib.Core.Path.{◌≡◌, refl, sym, ap}
+use mathlib.Core.Path.{◌≡◌, refl, ap}
 use mathlib.Core.List.{List, [], ◌∷◌}
 use Rattle.library.proofs.RoundTrip.{no_sheet}
 use Rattle.lists.specs.Table.{table}
-use Rattle.heads.specs.History.{Event, snapshot_from, snapshot_of}
-use Rattle.heads.specs.Follows.{Fits, bare, held}
-use Rattle.std.specs.Prelude.{Option, None, Some}
+use Rattle.heads.specs.History.{snapshot_from, snapshot_of}
 use Rattle.std.proofs.lemmas.List.{length-map}
-use Rattle.std.proofs.lemmas.Option.{none-some}
-use Rattle.any_filter.specs.declared.Filter.{Filter}
 use Rattle.heads.proofs.Follows.{head_follows}
+use Rattle.heads.proofs.Sound.{no_events}
 use Rattle.rota.proofs.Follows.{rota_follows}
 use Rattle.frame.specs.Calls.{fresh_frame}
 use Rattle.frame.specs.Call.{Call, Reply}
@@ -33,13 +30,6 @@ followed H (c ∷ cs) S =
       frame = rw (follows H c S) r.frame;
       sound = r.sound;
     }
-
--- a good history without a filter is empty
-no_events : (l : List Event) (σ : Option Filter) → Fits l σ → σ ≡ None → l ≡ []
-no_events [] None bare e = refl
-no_events (i ∷ l) (Some f) (held q) e = absurd (none-some f (sym e))
-no_events [] (Some f) g e = elim g [ ]
-no_events (i ∷ l) None g e = elim g [ ]
 
 pub upheld : (H : Histories) (cs : List Call) → Sound H → Upheld (frame_for H) H cs
 unfolding snapshot_from

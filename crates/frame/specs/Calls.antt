@@ -16,7 +16,9 @@ use Rattle.rota.specs.Call.{of_tell, of_turn}
 use Rattle.rota.specs.Rota as rota
 use Rattle.rota.specs.declared.Grant.{Grant}
 use Rattle.rota.specs.declared.Rota.{Rota}
-use Rattle.frame.specs.Call.{Call, opening, writing, loading, at, beginning, taking, at_rota, Reply, plain, wrote, acted, of_rota, refused}
+use Rattle.saved_heads.specs.Bytes.{heads_in}
+use Rattle.saved_heads.specs.Saved.{save_number, saved_length, saved_in, restore_refusal}
+use Rattle.frame.specs.Call.{Call, opening, writing, loading, at, beginning, taking, at_rota, saving, restoring, Reply, plain, wrote, acted, of_rota, refused}
 use Rattle.frame.specs.declared.Frame.{Frame}
 
 -- ---- a frame's parts
@@ -27,6 +29,9 @@ head_at f h = get_or f.heads h empty_head
 
 abbrev pub with_head : Frame → ℕ → Head → Frame
 with_head f h x = record f { heads = set f.heads h x }
+
+abbrev pub with_heads : Frame → List Head → Frame
+with_heads f xs = record f { heads = xs }
 
 abbrev pub with_library : Frame → Library → Frame
 with_library f l = record f { library = l }
@@ -76,6 +81,10 @@ takes v out = wrote (take_refusal v) (take_length v out) (taken_of v out)
 abbrev pub rota_done : Frame → rota.Done → Done
 rota_done f d = record { reply = of_rota d.reply; frame = with_rota f d.rota }
 
+-- a refused save has the length 0
+abbrev pub saves : List Head → List ℕ → Reply
+saves xs out = wrote (save_number xs out) (unless_refused (save_number xs out) 0 (saved_length xs)) (saved_in xs out)
+
 unfoldable pub perform : Frame → Call → Done
 perform f (opening s) = cond (eqb (check_of s) 0) (record { reply = plain 0; frame = with_library f (library.library_of s) }) (refuse f (opening s) (check_of s))
 perform f (writing out) = record { reply = writes f.library out; frame = f }
@@ -84,6 +93,8 @@ perform f (at h a) = at_head f (at h a) h (settled f h (turn (head_at f h) a))
 perform f beginning = record { reply = plain (begin_refusal (length (left_of f.save)) f.library); frame = with_save f (begin_of f.save f.library) }
 perform f (taking out) = record { reply = takes f.save out; frame = with_save f (take_of f.save out) }
 perform f (at_rota c) = rota_done f (rota.perform f.rota c)
+perform f (saving out) = record { reply = saves f.heads out; frame = f }
+perform f (restoring b) = cond (eqb (restore_refusal b) 0) (record { reply = plain 0; frame = with_heads f (heads_in b) }) (refuse f (restoring b) (restore_refusal b))
 
 -- ---- the answers of the code, the frame that it leaves, and the lent outputs as they are left. A refused call answers 0 beside its number
 

@@ -1,14 +1,16 @@
 -- The refusal table of document 01, row by row, for the calls of a frame: the case of each number as a statement about the histories,
 -- the call's arguments and the lengths of its buffers.
-use Rattle.std.specs.Prelude.{ℕ, ◌≤◌, List, [], ◌∷◌, length}
+use Rattle.std.specs.Prelude.{ℕ, zero, suc, ◌+◌, ◌≤◌, List, [], ◌∷◌, length}
 use Rattle.filter_core.specs.Rows.{Only, Exactly}
 use Rattle.sheets.specs.Sheet.{entries_of}
 use Rattle.sheets.specs.Rows.{SheetRow}
 use Rattle.library.specs.Rows.{WriteCase}
+use Rattle.heads.specs.History.{HeadHistory}
 use Rattle.heads.specs.Rows.{ActCase, numbers_of}
 use Rattle.saves.specs.Rows.{BeginCase, TakeCase}
 use Rattle.rota.specs.Rows as rota
-use Rattle.frame.specs.Call.{Call, opening, writing, loading, at, beginning, taking, at_rota}
+use Rattle.saved_heads.specs.Rows.{SaveCase, RestoreCase}
+use Rattle.frame.specs.Call.{Call, opening, writing, loading, at, beginning, taking, at_rota, saving, restoring}
 use Rattle.frame.specs.History.{Histories, no_histories, call_number, advance_all}
 
 -- a call at the head h: its own cases are those of the head
@@ -22,7 +24,12 @@ pub data LoadCase (s : List ℕ) (e : ℕ) : ℕ → Type 0 where
   -- 5: as many entries as the sheet announces, none where there is no sheet
   no_entry : entries_of s ≤ e → LoadCase s e 5
 
--- A sheet, a write, a begin, a take and the rota's calls have rows of their own, below the frame.
+-- how many rows the first n heads are saved as: one each, and one for each checkpoint (02 k)
+unfoldable pub row_count : ℕ → (ℕ → HeadHistory) → ℕ
+row_count zero g = 0
+row_count (suc n) g = 1 + length (g 0).checkpoints + row_count n (λ h. g (suc h))
+
+-- A sheet, a write, a begin, a take, the rota's calls and saved frames have rows of their own, below the frame.
 abbrev pub Row : Histories → Call → ℕ → Type 0
 Row H (opening s) n = Only (SheetRow s) n
 Row H (writing out) n = Exactly (WriteCase (entries_of H.sheet) (length out)) (2 ∷ 12 ∷ []) n
@@ -31,6 +38,8 @@ Row H (at h a) n = Exactly (AtCase h (ActCase (H.heads h) a)) (1 ∷ numbers_of 
 Row H beginning n = Exactly (BeginCase (length H.left) (entries_of H.sheet)) (16 ∷ 2 ∷ []) n
 Row H (taking out) n = Exactly (TakeCase (length H.left)) (17 ∷ []) n
 Row H (at_rota c) n = Exactly (rota.RotaCase H.rota c) (rota.numbers_of c) n
+Row H (saving out) n = Exactly (SaveCase (row_count 12 H.heads) (length out)) (12 ∷ []) n
+Row H (restoring b) n = Exactly (RestoreCase b) (20 ∷ []) n
 
 -- after any calls on a fresh frame, a call's number is that of its row
 unfoldable pub NumbersByRows : Type 0

@@ -6,7 +6,7 @@ ghost use Rattle.filter_core.specs.Refusal.{number_in};
 ghost use Rattle.heads.specs.Act.{run, run_two, rest, mark, back, drop, count};
 ghost use Rattle.rota.specs.Call.{tell, turn};
 ghost use Rattle.rota.specs.Rota.{head_refusal};
-ghost use Rattle.frame.specs.Call.{opening, writing, loading, at, beginning, taking, at_rota};
+ghost use Rattle.frame.specs.Call.{opening, writing, loading, at, beginning, taking, at_rota, saving, restoring};
 ghost use Rattle.frame.specs.Calls.{head_at, fresh_frame, perform, plainly, acting, with_output, with_outputs, with_mark, with_count, with_written, with_telling, with_grant};
 ghost use Rattle.frame.specs.Refused.{RefusedLeaves};
 ghost use Rattle.frame.specs.Rows.{NumbersByRows};
@@ -182,6 +182,23 @@ impl Frame {
         self.rota.turn()
     }
 
+    // Writes the saved form of the heads with their marks and counts, and answers its length. Places behind it keep their contents.
+    #[tactic(auto, unfolding(crate::specs::Calls::perform))]
+    pub fn save_heads(&self, output: &mut [u8]) -> Result<usize, Refusal>
+        ensures { with_written result self.now output.new ≡ perform self.now (saving output.old) }
+    {
+        saved_heads::save(&self.heads, output)
+    }
+
+    // Replaces all twelve heads by those that were saved as these bytes. The library, the save that was begun and the rota stay.
+    #[tactic(auto, unfolding(crate::specs::Calls::perform))]
+    pub fn restore_heads(&mut self, bytes: &[u8]) -> Result<(), Refusal>
+        ensures { plainly result self.new ≡ perform self.old (restoring bytes.now) }
+    {
+        self.heads = saved_heads::restore(bytes)?;
+        Ok(())
+    }
+
     // A head as it stands.
     pub fn show(&self, head: usize) -> Result<&Head, Refusal>
         ensures refusal { number_in result ≡ head_refusal head }
@@ -217,7 +234,7 @@ pub fn counts_fit()
 {}
 
 // A save hands out the sheet as it was when the save began, and leaves heads, marks and library as they are.
-#[tactic(auto, using(crate::proofs::Saves::saving))]
+#[tactic(auto, using(crate::proofs::Saves::save_goes_on))]
 pub fn opening_while_saving()
     ensures { Saving }
 {}

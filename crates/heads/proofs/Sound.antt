@@ -1,14 +1,17 @@
 -- What holds of every history that calls make: the filter that it leads to is of the type that it names, its count is one of 32 bits, and no
 -- head has more than four checkpoints. Assumes nothing.
-use Prim.Native.Nat.{ℕ, zero, suc, ◌+◌, ◌≤◌}
-use mathlib.Core.Path.{◌≡◌, refl, sym, ◌∙◌}
+use Prim.Native.Nat.{ℕ, zero, suc, ◌+◌, ◌≤◌, ◌<◌}
+use mathlib.Core.Path.{◌≡◌, refl, sym, ap, ◌∙◌}
 use mathlib.Core.Bool.{Bool, true, false, cond}
 use mathlib.Core.List.{List, [], ◌∷◌, ◌++◌}
 use native.Mathlib.Omega.{arith}
-use borrow.Author.Tests.{ltb-false, eqb-true}
+use borrow.Author.Tests.{ltb-false, leb-false, eqb-true}
 use lib.ListN.{length, get_or, take, length-append, length-take}
-use lib.Dec.{eqb, ltb}
+use lib.Seq.{take-nil}
+use lib.Dec.{eqb, ltb, leb}
 use lib.Ieee.{Float}
+use Rattle.std.proofs.lemmas.List.Elements.{All-nil, All-take, All-push, All-get_or}
+use Rattle.std.proofs.lemmas.Option.{none-some}
 use Rattle.filter_core.specs.Buffer.{within}
 use Rattle.sheets.specs.declared.entry.Entry.{Entry}
 use Rattle.any_filter.specs.Cases.{type_of, rested}
@@ -21,7 +24,7 @@ use Rattle.runs.specs.Run.{through}
 use Rattle.runs.specs.declared.form.RunForm.{RunForm}
 use Rattle.heads.specs.Act.{Act, run, run_two, rest, mark, back, drop, count}
 use Rattle.heads.specs.Snapshot.{greatest_count, run_number}
-use Rattle.heads.specs.History.{Event, load_event, run_event, rest_event, HeadHistory, no_history, type_with, type_from, last_type, since_from, samples_in, count_of, count_with, unless_bare, act_number, adding, grown_by, advance_by, filter_with, snapshot_with, snapshot_from, snapshot_of}
+use Rattle.heads.specs.History.{Event, load_event, run_event, rest_event, HeadHistory, no_history, type_with, type_from, last_type, since_from, samples_in, count_of, count_with, unless_bare, no_mark, act_number, adding, grown_by, advance_by, filter_with, snapshot_with, snapshot_from, snapshot_of}
 use Rattle.heads.specs.Follows.{Fits, bare, held, Good, SoundHead}
 use Rattle.heads.proofs.Counts.{run_zero, count_snoc}
 use Rattle.std.specs.Prelude.{Option, None, Some}
@@ -62,9 +65,16 @@ type_rested (NaiveSvf s) = refl
 type_rested (ModifiedSvf s) = refl
 type_rested (CrossoverSvf p) = refl
 
+-- a good history without a filter is empty
+pub no_events : (l : List Event) (σ : Option Filter) → Fits l σ → σ ≡ None → l ≡ []
+no_events [] None bare e = refl
+no_events (i ∷ l) (Some f) (held q) e = absurd (none-some f (sym e))
+no_events [] (Some f) g e = elim g [ ]
+no_events (i ∷ l) None g e = elim g [ ]
+
 -- ---- a history stays good
 
-good_none : Good []
+pub good_none : Good []
 unfolding snapshot_from since_from samples_in
 good_none = record { fits = bare; small = omega arith }
 
@@ -128,25 +138,62 @@ up_to k n r l e = go (ltb k n) refl (past_bare l _ e)
     go true q e = absurd (omega arith)
     go false q e = ltb-false k n q
 
-pub sound_grown : (x : HeadHistory) (a : Act) → SoundHead x → act_number x a ≡ 0 → SoundHead (grown_by x a)
-sound_grown x (run form us ys) S q = record { good = good_run x.history form (within us ys) (run_refusal (last_type x.history) form) q S.good; goods = S.goods; four = S.four }
-sound_grown x (run_two form us ys zs) S q =
+pub no_cons : {A : Type 0} {x : A} {l : List A} → x ∷ l ≡ [] → ⊥
+no_cons e = let z = ap length e in omega arith
+
+-- an event added leaves no empty history
+added : (l : List Event) (i : Event) → l ++ i ∷ [] ≡ [] → ⊥
+added [] i e = no_cons e
+added (j ∷ l) i e = no_cons e
+
+abbrev Filled : List Event → Type 0
+Filled l = l ≡ [] → ⊥
+
+not_bare : (l : List Event) (n : ℕ) → unless_bare l n ≡ 0 → Filled l
+not_bare [] n q e = absurd (omega arith)
+not_bare (i ∷ l) n q e = no_cons e
+
+sound_adding : (x : HeadHistory) (i : Event) → SoundHead x → Good (x.history ++ i ∷ []) → SoundHead (adding x i)
+sound_adding x i S g = record { good = g; goods = S.goods; four = S.four; filled = S.filled; of_empty = λ e. absurd (added x.history i e) }
+
+-- fewer checkpoints
+sound_taken : (x : HeadHistory) (l : List Event) (n : ℕ) → SoundHead x → Good l → (l ≡ [] → x.checkpoints ≡ []) → SoundHead (record { history = l; checkpoints = take n x.checkpoints })
+sound_taken x l n S g e =
     record {
-      good = good_run x.history form (within (within us ys) zs) (run_two_refusal (last_type x.history) form) q S.good;
-      goods = S.goods;
-      four = S.four;
+      good = g;
+      goods = goods_take n x.checkpoints S.goods;
+      four = omega (arith, length-take n x.checkpoints, S.four);
+      filled = All-take Filled n x.checkpoints S.filled;
+      of_empty = λ z. ap (take n) (e z) ∙ take-nil n;
     }
-sound_grown x rest S q = record { good = good_rest x.history _ q S.good; goods = S.goods; four = S.four }
-sound_grown x mark S q =
+
+sound_marked : (x : HeadHistory) → SoundHead x → act_number x mark ≡ 0 → SoundHead (grown_by x mark)
+sound_marked x S q =
+    let f = not_bare x.history _ q in
     record {
       good = S.good;
       goods = goods_snoc x.checkpoints x.history S.goods S.good;
       four = omega (arith, length-append x.checkpoints (x.history ∷ []), up_to _ (length x.checkpoints) _ x.history q);
+      filled = All-push Filled x.checkpoints x.history S.filled f;
+      of_empty = λ e. absurd (f e);
     }
-sound_grown x (back m) S q =
-    record { good = S.goods m; goods = goods_take (m + 1) x.checkpoints S.goods; four = omega (arith, length-take (m + 1) x.checkpoints, S.four) }
-sound_grown x (drop m) S q =
-    record { good = S.good; goods = goods_take m x.checkpoints S.goods; four = omega (arith, length-take m x.checkpoints, S.four) }
+
+-- mark m is there
+there : (x : HeadHistory) (m : ℕ) → no_mark x m ≡ 0 → m < length x.checkpoints
+there x m q = go (leb (length x.checkpoints) m) refl q
+  where
+    go : (b : Bool) → leb (length x.checkpoints) m ≡ b → cond {A = ℕ} b 7 0 ≡ 0 → m < length x.checkpoints
+    go true e q = absurd (omega arith)
+    go false e q = leb-false (length x.checkpoints) m e
+
+pub sound_grown : (x : HeadHistory) (a : Act) → SoundHead x → act_number x a ≡ 0 → SoundHead (grown_by x a)
+sound_grown x (run form us ys) S q = sound_adding x _ S (good_run x.history form (within us ys) (run_refusal (last_type x.history) form) q S.good)
+sound_grown x (run_two form us ys zs) S q =
+    sound_adding x _ S (good_run x.history form (within (within us ys) zs) (run_two_refusal (last_type x.history) form) q S.good)
+sound_grown x rest S q = sound_adding x rest_event S (good_rest x.history _ q S.good)
+sound_grown x mark S q = sound_marked x S q
+sound_grown x (back m) S q = sound_taken x _ (m + 1) S (S.goods m) (λ e. absurd (All-get_or Filled x.checkpoints m [] (there x m q) S.filled e))
+sound_grown x (drop m) S q = sound_taken x x.history m S S.good S.of_empty
 sound_grown x count S q = S
 
 pub sound_advance : (x : HeadHistory) (a : Act) → SoundHead x → SoundHead (advance_by x a)
@@ -158,7 +205,7 @@ sound_advance x a S = go (eqb (act_number x a) 0) refl
     go false q = S
 
 pub sound_loaded : (x : HeadHistory) (e : Entry) → SoundHead x → SoundHead (adding x (load_event e))
-sound_loaded x e S = record { good = good_load x.history e; goods = S.goods; four = S.four }
+sound_loaded x e S = sound_adding x (load_event e) S (good_load x.history e)
 
 pub sound_none : SoundHead no_history
-sound_none = record { good = good_none; goods = λ m. good_none; four = omega arith }
+sound_none = record { good = good_none; goods = λ m. good_none; four = omega arith; filled = All-nil Filled; of_empty = λ e. refl }

@@ -1,5 +1,6 @@
 -- A head is the picture of its history, and each call keeps that: what demand 3 says of one head and one call.
 use Rattle.std.specs.Prelude.{ℕ, ◌≤◌, ◌≡◌, List, [], ◌∷◌, length, get_or, map, Option, None, Some}
+use Rattle.std.specs.List.{All}
 use Rattle.sheets.specs.declared.entry.Entry.{Entry}
 use Rattle.any_filter.specs.Cases.{type_of}
 use Rattle.any_filter.specs.declared.Filter.{Filter}
@@ -29,6 +30,9 @@ pub record SoundHead (x : HeadHistory) : Type 0 where
   pub good : Good x.history
   pub goods : (m : ℕ) → Good (get_or x.checkpoints m [])
   pub four : length x.checkpoints ≤ 4
+  -- only what was loaded is marked
+  pub filled : All (λ (l : List Event). l ≡ [] → ⊥) x.checkpoints
+  pub of_empty : x.history ≡ [] → x.checkpoints ≡ []
 
 pub record HeadFollows : Type 0 where
   -- an empty head has no history

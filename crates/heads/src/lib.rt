@@ -12,6 +12,7 @@ ghost use Rattle.heads.specs.Follows.{HeadFollows};
 ghost use Rattle.heads.specs.Counts.{CountsAreSums};
 ghost use Rattle.heads.specs.Rows.{HeadByRows};
 ghost use Rattle.heads.specs.Rest.{RestIsLoad};
+ghost use Rattle.heads.specs.Kept.{HeadsKept};
 
 use any_filter::Filter;
 use arrayvec::ArrayVec;
@@ -163,4 +164,10 @@ pub fn counts_are_sums()
 #[tactic(auto, using(crate::proofs::Rest::rest_is_load))]
 pub fn rest_is_load()
     ensures { RestIsLoad }
+{}
+
+// What every head keeps that calls lead to, and that one that keeps it is the picture of the history that it opens when it is restored.
+#[tactic(auto, using(crate::proofs::Kept::heads_kept))]
+pub fn heads_kept()
+    ensures { HeadsKept }
 {}

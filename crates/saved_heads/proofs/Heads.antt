@@ -23,7 +23,8 @@ use Rattle.heads.specs.declared.Head.{Head}
 use Rattle.saved_heads.specs.Row.{row_of, snapshot_in}
 use Rattle.saved_heads.specs.Bytes.{head_rows, rows_from, with_mark, with_snapshot, grown_head, with_row}
 use Rattle.saved_heads.specs.Rules.{RowRight, HeadRight, InTurn, closed, head}
-use Rattle.saved_heads.specs.RoundTrip.{KeptSnapshot, KeptMark, KeptHead, Kept}
+use Rattle.heads.specs.Kept.{KeptSnapshot, KeptMark, KeptHead}
+use Rattle.saved_heads.specs.RoundTrip.{Kept}
 use Rattle.saved_heads.specs.declared.Row.{Row}
 use Rattle.saved_heads.proofs.Bytes.{Shaped, Tagged}
 use Rattle.saved_heads.proofs.Snapshots.{snapshot_back, row_shaped, row_right, row_back, kept_in, empty_in, byte_of_none, byte_known, eight_words}
@@ -271,7 +272,7 @@ pub empty_kept : KeptHead empty_head
 empty_kept =
     record { now = record { held = tt; small = omega arith; no_count = λ e. refl }; few = omega arith; marks = All-nil KeptMark; of_empty = λ e. refl }
 
-head_kept : (xs : List Head) → All KeptHead xs → (h : ℕ) → KeptHead (get_or xs h empty_head)
+pub head_kept : (xs : List Head) → All KeptHead xs → (h : ℕ) → KeptHead (get_or xs h empty_head)
 head_kept xs k h = ⊎_elim (λ l. All-get_or KeptHead xs h empty_head l k) (λ l. rw (get_or_past xs h empty_head l) empty_kept) (cases_lt h (length xs))
 
 row_kept : (xs : List Head) (r : Row) → Shaped r → All KeptHead xs → All KeptHead (with_row xs r)

@@ -1,19 +1,23 @@
--- Bytes are accepted where every rule of a saved frame holds. Assumes nothing.
-use Prim.Native.Nat.{ℕ}
+-- Bytes are accepted where every rule of a saved frame holds, and refused with 20 where one is broken. Assumes nothing.
+use Prim.Native.Nat.{ℕ, ◌+◌, ◌*◌, ◌≤◌}
 use mathlib.Core.Path.{◌≡◌, refl, sym, ap, subst, ◌∙◌}
 use mathlib.Core.Bool.{Bool, true, false, cond}
-use mathlib.Core.List.{List}
-use mathlib.Core.Logic.{◌⊎◌, ⊎_elim, inl, inr}
+use mathlib.Core.List.{List, [], ◌∷◌}
 use native.Mathlib.Omega.{arith}
-use lib.ListN.{replicate}
+use borrow.Author.Tests.{ltb-true, ltb-false}
+use lib.Dec.{ltb}
+use lib.ListN.{length, replicate}
 use Rattle.std.specs.Prelude.{bytes_eq}
 use Rattle.std.specs.List.{fold}
 use Rattle.heads.specs.Head.{empty_head}
 use Rattle.heads.specs.declared.Head.{Head}
 use Rattle.saved_heads.specs.Bytes.{rows_from, rows_said, row_at, rows_bytes, bytes_of, with_row, heads_in}
-use Rattle.saved_heads.specs.Saved.{restore_refusal}
+use Rattle.saved_heads.specs.Saved.{saved_length, restore_refusal}
 use Rattle.saved_heads.specs.Rules.{Saved}
-use Rattle.saved_heads.specs.RoundTrip.{Kept, RestoreByRules}
+use Rattle.filter_core.specs.Rows.{First, none, here, later}
+use Rattle.filter_core.proofs.Rows.{exactly, by_test}
+use Rattle.saved_heads.specs.Rows.{SaveCase, short, RestoreCase, broken, SavedHeadsByRows}
+use Rattle.saved_heads.specs.RoundTrip.{Kept}
 use Rattle.lists.proofs.Tables.{all_table}
 use Rattle.saved_heads.proofs.Bytes.{AreBytes, Shaped, long_written, shaped_at, bytes_back}
 use Rattle.saved_heads.proofs.Heads.{heads_back, rows_right, rows_many, rows_eight, in_turn, grouped}
@@ -48,18 +52,25 @@ saved b h =
     let e : heads_in b ≡ g.heads = all_read b h.most ∙ ap (fold with_row (replicate 12 empty_head)) (sym g.rows) ∙ heads_back g.heads k in
     accepted_of b (ap bytes_of e ∙ ap rows_bytes g.rows ∙ bytes_back b h.bytes h.long h.most)
 
--- ---- so 20 is answered where a rule is broken
+-- ---- row by row
 
-refused_or : (b : List ℕ) → (restore_refusal b ≡ 0) ⊎ (restore_refusal b ≡ 20)
-refused_or b = go (bytes_eq (bytes_of (heads_in b)) b)
+not_zero : {n : ℕ} → n ≡ 20 → n ≡ 0 → ⊥
+not_zero p q = omega arith
+
+restored_row : (b : List ℕ) → First (RestoreCase b) (20 ∷ []) (restore_refusal b)
+restored_row b = go (bytes_eq (bytes_of (heads_in b)) b) refl
   where
-    go : (t : Bool) → (cond {A = ℕ} t 0 20 ≡ 0) ⊎ (cond {A = ℕ} t 0 20 ≡ 20)
-    go true = inl refl
-    go false = inr refl
+    go : (t : Bool) → bytes_eq (bytes_of (heads_in b)) b ≡ t → First (RestoreCase b) (20 ∷ []) (cond t 0 20)
+    go true q = later (λ p. elim p [ broken n ↦ n (accepted b (ap (λ (t : Bool). cond t 0 20) q)) ]) none
+    go false q = here (broken (λ h. not_zero (ap (λ (t : Bool). cond {A = ℕ} t 0 20) q) (saved b h)))
 
-pub by_rules : RestoreByRules
-by_rules =
+has_room : {n m : ℕ} → 2 + 38 * n ≤ m → SaveCase n m 12 → ⊥
+has_room l (short s) = omega arith
+
+pub saved_heads_by_rows : SavedHeadsByRows
+saved_heads_by_rows =
     record {
+      saves = λ xs out. exactly (by_test (ltb (length out) (saved_length xs)) (λ q. short (ltb-true _ _ q)) (λ q. has_room (ltb-false _ _ q)) (λ q. none));
+      restores = λ b. exactly (restored_row b);
       accepted = λ b. (accepted b, saved b);
-      refused = λ b. (λ z h. absurd (omega (arith, saved b h)), λ n. ⊎_elim (λ z. absurd (n (accepted b z))) (λ z. z) (refused_or b));
     }

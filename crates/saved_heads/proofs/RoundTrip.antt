@@ -15,7 +15,8 @@ use Rattle.heads.specs.Head.{empty_head}
 use Rattle.heads.specs.declared.Head.{Head}
 use Rattle.saved_heads.specs.Bytes.{rows_from, rows_said, row_at, rows_in, bytes_of, with_row, heads_in}
 use Rattle.saved_heads.specs.Saved.{saved_length, restore_refusal}
-use Rattle.saved_heads.specs.RoundTrip.{KeptHead, Kept, HeadsReturn}
+use Rattle.heads.specs.Kept.{KeptHead}
+use Rattle.saved_heads.specs.RoundTrip.{Kept, HeadsReturn}
 use Rattle.saved_heads.proofs.Bytes.{AreBytes, Shaped, rows_read, said_written, long_written, shaped_at, written_below}
 use Rattle.saved_heads.proofs.Heads.{heads_back, rows_shaped, rows_few, rows_kept, rows_length, rows_eight, rows_tagged, empty_kept}
 

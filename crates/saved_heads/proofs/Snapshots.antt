@@ -21,7 +21,7 @@ use Rattle.any_filter.proofs.Words.{words_return}
 use Rattle.heads.specs.declared.Snapshot.{Snapshot}
 use Rattle.saved_heads.specs.Row.{filter_byte, filter_words, row_of, snapshot_by, snapshot_in}
 use Rattle.saved_heads.specs.Rules.{fields_by, RowRight}
-use Rattle.saved_heads.specs.RoundTrip.{KeptSnapshot}
+use Rattle.heads.specs.Kept.{KeptSnapshot}
 use Rattle.saved_heads.specs.declared.Row.{Row}
 use Rattle.saved_heads.proofs.Bytes.{Small, Shaped}
 

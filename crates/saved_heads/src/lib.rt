@@ -11,7 +11,8 @@ ghost use Rattle.heads.specs.Head.{empty_head};
 ghost use Rattle.saved_heads.specs.Row.{row_of, snapshot_in};
 ghost use Rattle.saved_heads.specs.Bytes.{tag_bytes, record_bytes, rows_bytes, rows_said, row_at, head_rows, rows_from, bytes_of, grown_head, with_row, heads_in};
 ghost use Rattle.saved_heads.specs.Saved.{save_number, saved_length, saved_in, restore_refusal};
-ghost use Rattle.saved_heads.specs.RoundTrip.{RestoreByRules, HeadsReturn};
+ghost use Rattle.saved_heads.specs.RoundTrip.{HeadsReturn};
+ghost use Rattle.saved_heads.specs.Rows.{SavedHeadsByRows};
 
 use any_filter::{Filter, FilterType};
 use arrayvec::ArrayVec;
@@ -239,10 +240,10 @@ pub fn restore(bytes: &[u8]) -> Result<[Head; 12], Refusal>
 
 // ---- the theorems
 
-// 20 is answered where a rule of a saved frame is broken, and only there.
-#[tactic(auto, using(crate::proofs::Judged::by_rules))]
-pub fn restored_by_rules()
-    ensures { RestoreByRules }
+// Each number is answered in its row's case, and in no other: 20 where a rule of a saved frame is broken.
+#[tactic(auto, using(crate::proofs::Judged::saved_heads_by_rows))]
+pub fn saved_heads_by_rows()
+    ensures { SavedHeadsByRows }
 {}
 
 // Heads and their saved form come back from each other.
