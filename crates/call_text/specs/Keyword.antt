@@ -2,7 +2,7 @@
 use Rattle.std.specs.Prelude.{ℕ, List, [], ◌∷◌, Option, codes}
 use Rattle.form_text.specs.Name.{look_up}
 use Rattle.call_text.specs.declared.keyword.Keyword.{Keyword}
-use Rattle.call_text.specs.declared.keyword.Keyword.TheVariants.{Open, Load, Run, Two, Rest, Mark, Back, Drop, Write, Check, Lookup, Head, Check1, Lookup1, Convert, Count, Begin, Take, Tell, Turn}
+use Rattle.call_text.specs.declared.keyword.Keyword.TheVariants.{Open, Load, Run, Two, Rest, Mark, Back, Drop, Write, Check, Lookup, Head, Check1, Lookup1, Convert, Count, Begin, Take, Tell, Turn, Save, Restore}
 
 abbrev pub keywords : List (List ℕ × Keyword)
 keywords =
@@ -26,6 +26,8 @@ keywords =
     ∷ (codes "take", Take)
     ∷ (codes "tell", Tell)
     ∷ (codes "turn", Turn)
+    ∷ (codes "save", Save)
+    ∷ (codes "restore", Restore)
     ∷ []
 
 abbrev pub keyword_of : List ℕ → Option Keyword

@@ -10,7 +10,7 @@ use Rattle.call_text.specs.Keyword.{keyword_of}
 use Rattle.call_text.specs.declared.keyword.Keyword.{Keyword}
 use Rattle.call_text.specs.declared.keyword.Keyword.TheVariants as keyword
 use Rattle.call_text.specs.declared.line.Call.{Call}
-use Rattle.call_text.specs.declared.line.Call.TheVariants.{Open, Load, Run, Two, Rest, Mark, Back, Drop, Write, Check, Lookup, Head, Check1, Lookup1, Convert, Count, Begin, Take, Tell, Turn}
+use Rattle.call_text.specs.declared.line.Call.TheVariants.{Open, Load, Run, Two, Rest, Mark, Back, Drop, Write, Check, Lookup, Head, Check1, Lookup1, Convert, Count, Begin, Take, Tell, Turn, Save, Restore}
 use Rattle.call_text.specs.declared.line.BadLine.{BadLine}
 use Rattle.call_text.specs.declared.line.BadLine.TheVariants.{NoCall, Words}
 
@@ -96,6 +96,8 @@ call_for keyword.Begin fields = keyword_alone Begin fields
 call_for keyword.Take fields = option_map Take (one_buffer fields)
 call_for keyword.Tell fields = tell_call fields
 call_for keyword.Turn fields = keyword_alone Turn fields
+call_for keyword.Save fields = option_map Save (one_buffer fields)
+call_for keyword.Restore fields = option_map Restore (one_buffer fields)
 
 -- an answer of `call_of`: none for a silent line
 abbrev pub Answer : Type 0 → Type 0
@@ -139,6 +141,8 @@ text_call Begin = Begin
 text_call (Take o) = Take o.now
 text_call (Tell h n) = Tell h n
 text_call Turn = Turn
+text_call (Save o) = Save o.now
+text_call (Restore b) = Restore b.now
 
 abbrev pub text_answer : Answer (Bor (List ℕ)) → Answer (List ℕ)
 text_answer (Ok call) = Ok (option_map text_call call)

@@ -26,6 +26,8 @@ pub enum Keyword {
     Take,
     Tell,
     Turn,
+    Save,
+    Restore,
 }
 
 // A match over the text of a line, whose first word names the call.
@@ -53,6 +55,8 @@ pub fn keyword_of(s: &[u8]) -> Option<Keyword>
         b"take" => Some(Keyword::Take),
         b"tell" => Some(Keyword::Tell),
         b"turn" => Some(Keyword::Turn),
+        b"save" => Some(Keyword::Save),
+        b"restore" => Some(Keyword::Restore),
         _ => None,
     }
 }

@@ -74,6 +74,8 @@ pub enum Call<B> {
         samples: u16,
     },
     Turn,
+    Save(B),
+    Restore(B),
 }
 
 // Why a line is no call.
@@ -230,6 +232,8 @@ fn call_for<'a>(keyword: Keyword, fields: Fields<'a>) -> Option<Call<&'a [u8]>>
         Keyword::Take => Call::Take(one_buffer(fields)?),
         Keyword::Tell => tell_call(fields)?,
         Keyword::Turn => keyword_alone(Call::Turn, fields)?,
+        Keyword::Save => Call::Save(one_buffer(fields)?),
+        Keyword::Restore => Call::Restore(one_buffer(fields)?),
     };
     Some(call)
 }

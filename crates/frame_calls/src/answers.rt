@@ -74,6 +74,12 @@ fn take(frame: &mut Frame, output: &[u8], out: &mut Output) {
     put_written(out, answer, output.as_slice());
 }
 
+fn save(frame: &Frame, output: &[u8], out: &mut Output) {
+    let mut output = units_of::<u8, BYTES>(output);
+    let answer = frame.save_heads(output.as_mut_slice());
+    put_written(out, answer, output.as_slice());
+}
+
 fn convert(wanted: Edition, sheet: &[u8], output: &[u8], out: &mut Output) {
     let sheet = units_of::<u8, BYTES>(sheet);
     let mut output = units_of::<u8, BYTES>(output);
@@ -147,6 +153,11 @@ fn of_call(call: Call<&[u8]>, frame: &mut Frame, out: &mut Output) {
         Call::Take(output) => take(frame, output, out),
         Call::Tell { head, samples } => put_number(out, frame.tell(head, samples)),
         Call::Turn => put_turn(out, frame.turn()),
+        Call::Save(output) => save(frame, output, out),
+        Call::Restore(bytes) => put_number(
+            out,
+            frame.restore_heads(units_of::<u8, BYTES>(bytes).as_slice()),
+        ),
     }
 }
 

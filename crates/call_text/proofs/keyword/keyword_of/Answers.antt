@@ -25,3 +25,6 @@ returns-in-check c = rw (text_from_reads c.args.s.now (codes "check") (omega ari
 
 pub returns-in-begin : goal.returns-in-begin
 returns-in-begin c = rw (text_from_reads c.args.s.now (codes "begin") (omega arith) (search rules)) refl
+
+pub returns-in-restore : goal.returns-in-restore
+returns-in-restore c = rw (text_from_reads c.args.s.now (codes "restore") (omega arith) (search rules)) refl
