@@ -195,6 +195,13 @@ fn restored(frame: &Frame, before: &[Row], saved: &[u8], counts: &mut Counts) {
         return;
     };
     let near = |row: &Row| row.count > u32::MAX - NEAR;
+    let of_nan = |row: &&Row| row.words.contains(&NAN);
+    let filters = rows.iter().filter(|row| !row.is_empty()).count();
+    counts.add("filters restored", filters as u64);
+    counts.add(
+        "filters restored with a NaN",
+        rows.iter().filter(of_nan).count() as u64,
+    );
     counts.add_each(&[
         ("restore of another frame", rows != before),
         ("restore of an empty frame", rows.iter().all(Row::is_empty)),
