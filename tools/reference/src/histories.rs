@@ -2,7 +2,7 @@
 
 use crate::closing::{self, Row};
 use crate::counts::Counts;
-use crate::filters::word_of;
+use crate::filters::{word_of, Filter};
 use crate::lists::Frame;
 use crate::numbers::Numbers;
 use crate::text;
@@ -935,6 +935,7 @@ impl Alphabet {
             "short" => Some(SHORT),
             "saves" => Some(SAVES),
             "rota" => Some(ROTA),
+            "closings" => Some(CLOSINGS),
             _ => None,
         }
     }
@@ -1046,6 +1047,52 @@ const ROTA: Alphabet = Alphabet {
     end: |_| format!("{}tell 11 1\nturn\n", "turn\n".repeat(6)),
 };
 
+/// Two frames are restored among a head's calls: one where the head has a naive filter with a mark, two samples below the greatest count, so
+/// that the next run but one is refused; and one where it is empty, and its neighbour is not. At the end the frame is saved, and emptied for
+/// the next list.
+const CLOSINGS: Alphabet = Alphabet {
+    calls: "restores and a head's calls",
+    together: 64,
+    start: |_| "open 0100040000803f0000803f0000803e\n".to_string(),
+    letters: |_| {
+        let filter = |head, name, words: &[u32], count| {
+            let fields: Vec<f32> = words.iter().map(|w| f32::from_bits(*w)).collect();
+            Row::of(head, Some(Filter::from_shown(name, &fields)), count)
+        };
+        let naive = |lp| filter(0, "naive", &[0x3F00_0000, 0x3F80_0000, lp, 1], u32::MAX - 2);
+        let other = filter(1, "onepole", &[0x3F80_0000, 0x3F00_0000, 0xBF80_0000], 5);
+        let [near, apart] = [vec![naive(0x3F80_0000), naive(0)], vec![other]].map(|rows| {
+            let rows = with_empty(rows);
+            format!("restore {}", hex(&closing::bytes(&rows)))
+        });
+        vec![
+            near,
+            apart,
+            "load 0 0".to_string(),
+            "run 0 plain:low 3f800000bf000000 0000000000000000".to_string(),
+            "rest 0".to_string(),
+            "mark 0".to_string(),
+            "back 0 0".to_string(),
+            "drop 0 0".to_string(),
+        ]
+    },
+    end: |_| {
+        let empty = closing::bytes(&with_empty(Vec::new()));
+        format!("{}\nrestore {}\n", lend("save", 612), hex(&empty))
+    },
+};
+
+/// These rows, and an empty one for each head that has none.
+fn with_empty(mut rows: Vec<Row>) -> Vec<Row> {
+    for head in 0..12 {
+        if rows.iter().all(|row| row.head != head) {
+            rows.push(Row::of(head, None, 0));
+        }
+    }
+    rows.sort_by_key(|row| row.head);
+    rows
+}
+
 /// Every change of one byte of a valid sheet of each kind byte, of one with all seven kinds, of those in Exact at -0.497, -0.25 and -0.0, and
 /// of sheets of edition 2: every value at every place, every truncation, and every byte behind. Each goes through check and lookup by both
 /// readers and through open, the entry is loaded and shown, and the sheet is converted to both editions.
@@ -1118,7 +1165,7 @@ pub fn sheet_changes() -> impl Iterator<Item = Vec<u8>> {
     })
 }
 
-/// A frame with a filter of each type, empty heads between them, and marks: one of every type's words, and of what no finite sample leaves.
+/// A frame with a filter of each type, among them a NaN, an infinity and a subnormal, with marks, and with empty heads between.
 fn frame_to_change() -> Vec<Row> {
     let kinds = [1, 2, 4, 5, 6, 7];
     let mut sheet = vec![kinds.len() as u8, EDITION_1];
@@ -1402,8 +1449,7 @@ pub fn sample(seed: u64) -> Vec<u8> {
     }
     text.push_str("run 3 stride:low:2 3f8000003f800000 0000000000000000\nback 2 1\nmark 2\nrest 2\nhead 2\nload 2 0\ncount 2\nturn\nturn\ntake eeeeeeeeeeeeeeeeeeeeeeeeeeeeee\n");
     text.push_str("\n# An empty frame; one whose heads come to the greatest count.\n");
-    let empty: Vec<Row> = (0..12).map(|head| Row::of(head, None, 0)).collect();
-    text.push_str(&restore(&empty));
+    text.push_str(&restore(&with_empty(Vec::new())));
     text.push_str(&format!("{}\n{}\n", lend("save", 457), lend("save", 458)));
     text.push_str("rest 2\nmark 2\nback 2 0\nrun 2 plain:low - -\nload 2 0\n");
     let mut near = saved.clone();

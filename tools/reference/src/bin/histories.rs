@@ -1,5 +1,5 @@
 //! Gives histories to frame_calls and to the reference, and compares what they write byte for byte.
-//! `histories random --seed N --calls N --lines N`, `histories short|saves|rota --length N`, `histories sheets`, `histories frames`,
+//! `histories random --seed N --calls N --lines N`, `histories short|saves|rota|closings --length N`, `histories sheets`, `histories frames`,
 //! `histories sample`.
 //! A history gets a program of its own; the reference gets many, with `# fresh frame` between.
 
@@ -483,7 +483,9 @@ fn main() {
         }
         other => {
             let Some(alphabet) = other.and_then(Alphabet::named) else {
-                eprintln!("histories: random, short, saves, rota, sheets, frames or sample");
+                eprintln!(
+                    "histories: random, short, saves, rota, closings, sheets, frames or sample"
+                );
                 exit(2);
             };
             let length = value(&arguments, "--length", 5) as u32;
