@@ -1448,10 +1448,23 @@ pub fn sample(seed: u64) -> Vec<u8> {
         text.push_str(&format!("head {h}\ncount {h}\n"));
     }
     text.push_str("run 3 stride:low:2 3f8000003f800000 0000000000000000\nback 2 1\nmark 2\nrest 2\nhead 2\nload 2 0\ncount 2\nturn\nturn\ntake eeeeeeeeeeeeeeeeeeeeeeeeeeeeee\n");
-    text.push_str("\n# An empty frame; one whose heads come to the greatest count.\n");
+    text.push_str(
+        "\n# An empty frame; the longest one; one whose heads come to the greatest count.\n",
+    );
     text.push_str(&restore(&with_empty(Vec::new())));
     text.push_str(&format!("{}\n{}\n", lend("save", 457), lend("save", 458)));
     text.push_str("rest 2\nmark 2\nback 2 0\nrun 2 plain:low - -\nload 2 0\n");
+    let filters: Vec<&Row> = saved.iter().filter(|row| !row.is_empty()).collect();
+    let longest: Vec<Row> = (0..60)
+        .map(|k| Row {
+            head: k as u8 / 5,
+            count: k as u32,
+            ..filters[k % filters.len()].clone()
+        })
+        .collect();
+    text.push_str(&restore(&longest));
+    text.push_str("mark 11\nback 11 3\nhead 11\ncount 11\n");
+    text.push_str(&format!("{}\n{}\n", lend("save", 2281), lend("save", 2283)));
     let mut near = saved.clone();
     for row in near.iter_mut().filter(|row| !row.is_empty()) {
         row.count = u32::MAX - 2;

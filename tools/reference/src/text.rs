@@ -267,7 +267,7 @@ fn run(
         }
     }
     if refusal == 0 && frame.count(head) == Some(u64::from(u32::MAX)) {
-        let some = input.len() > 0 && outputs.iter().all(|out| out.len() > 0);
+        let some = !input.is_empty() && outputs.iter().all(|out| !out.is_empty());
         counts.add_each(&[
             ("run up to the greatest count", some),
             ("run of no samples at the greatest count", !some),
