@@ -61,6 +61,16 @@ impl Form {
     }
 }
 
+/// The types in document 01's order, and how many retained numbers each has.
+pub const TYPES: [(&str, usize); 6] = [
+    ("dc", 3),
+    ("onepole", 3),
+    ("svf", 5),
+    ("naive", 4),
+    ("modified", 5),
+    ("crossover", 8),
+];
+
 /// The type that an entry's kind puts into a head.
 pub fn type_of(kind: u8) -> &'static str {
     match kind {
@@ -71,6 +81,18 @@ pub fn type_of(kind: u8) -> &'static str {
         6 => "modified",
         7 => "crossover",
         _ => unreachable!("kind {kind}"),
+    }
+}
+
+/// The one pattern in which a NaN is written.
+pub const NAN: u32 = 0x7FC0_0000;
+
+/// A number's word, every NaN as the one NaN.
+pub fn word_of(x: f32) -> u32 {
+    if x.is_nan() {
+        NAN
+    } else {
+        x.to_bits()
     }
 }
 
@@ -218,6 +240,22 @@ impl Filter {
             Filter::Naive(f) => ("naive", f.fields().to_vec()),
             Filter::Modified(f) => ("modified", f.fields().to_vec()),
             Filter::Crossover(f) => ("crossover", f.fields().to_vec()),
+        }
+    }
+
+    /// The filter that is shown so: a type's name and as many numbers as it has.
+    pub fn from_shown(name: &str, fields: &[f32]) -> Filter {
+        fn all<const N: usize>(fields: &[f32]) -> [f32; N] {
+            fields.try_into().expect("as many as the type has")
+        }
+        match name {
+            "dc" => Filter::Dc(DcBlocker::from_fields(all(fields))),
+            "onepole" => Filter::OnePole(OnePole::from_fields(all(fields))),
+            "svf" => Filter::Svf(Svf::from_fields(all(fields))),
+            "naive" => Filter::Naive(NaiveSvf::from_fields(all(fields))),
+            "modified" => Filter::Modified(ModifiedSvf::from_fields(all(fields))),
+            "crossover" => Filter::Crossover(CrossoverSvf::from_fields(all(fields))),
+            _ => unreachable!("type {name}"),
         }
     }
 }

@@ -1,8 +1,11 @@
-//! Histories: random ones, every short one, and damaged sheets. A history is the text that a program gets on a fresh frame.
+//! Histories: random ones, every short one, damaged sheets and damaged saved frames. A history is the text that a program gets on a fresh frame.
 
-use crate::filters::type_of;
+use crate::closing::{self, Row};
+use crate::counts::Counts;
+use crate::filters::{word_of, Filter};
+use crate::lists::Frame;
 use crate::numbers::Numbers;
-use crate::rota::Rota;
+use crate::text;
 use oracle::{EXACT_LOWEST, MIRRORED};
 
 pub fn hex(bytes: &[u8]) -> String {
@@ -45,22 +48,17 @@ const SPECIAL: [u32; 20] = [
     0x3E80_0000, // 0.25, where the tangent turns
 ];
 
-/// What the generator knows of a head, to give it calls that are accepted as often as not.
-#[derive(Clone, Default)]
-struct Guess {
-    kind: Option<u8>,
-    marks: Vec<u8>,
-}
+/// How many saved frames are kept to be restored.
+const KEPT: usize = 64;
 
 pub struct Writer {
     numbers: Numbers,
     text: String,
-    library: Vec<u8>,
-    // How many bytes are left of a save.
-    left: usize,
-    rota: Rota,
-    heads: Vec<Guess>,
+    // What the lines so far make of a fresh frame, so that the next one is accepted as often as not.
+    frame: Frame,
     favourites: Vec<u64>,
+    // Frames that were saved in this history and in those before it.
+    saved: Vec<Vec<Row>>,
 }
 
 impl Writer {
@@ -68,11 +66,9 @@ impl Writer {
         Writer {
             numbers: Numbers(seed),
             text: String::new(),
-            library: Vec::new(),
-            left: 0,
-            rota: Rota::default(),
-            heads: Vec::new(),
+            frame: Frame::fresh(false),
             favourites: Vec::new(),
+            saved: Vec::new(),
         }
     }
 
@@ -162,11 +158,7 @@ impl Writer {
 
     // A form, mostly one that the head's filter has in this call.
     fn form(&mut self, head: u64, outputs: usize) -> String {
-        let of = self
-            .heads
-            .get(head as usize)
-            .and_then(|h| h.kind)
-            .map(|k| type_of(k % 16));
+        let of = self.frame.type_at(head);
         let own: &[&'static str] = match (of, outputs) {
             (Some("svf"), 1) => &["plain", "gain", "stride", "multimode"],
             (Some("naive"), 1) => &["plain", "decimate", "decimate"],
@@ -212,11 +204,7 @@ impl Writer {
             1 => self.numbers.pick(&SPECIAL),
             _ => self.numbers.next() as u32,
         };
-        if f32::from_bits(w).is_nan() {
-            0x7FC0_0000
-        } else {
-            w
-        }
+        word_of(f32::from_bits(w))
     }
 
     // A frequency, one in three from those below 0. In Exact it is not below what is taken.
@@ -342,6 +330,8 @@ impl Writer {
     }
 
     fn line(&mut self, line: &str) {
+        let (mut counts, mut answer) = (Counts::default(), String::new());
+        text::answer(&mut self.frame, line.as_bytes(), &mut counts, &mut answer);
         self.text.push_str(line);
         self.text.push('\n');
     }
@@ -349,9 +339,6 @@ impl Writer {
     fn open(&mut self, sheet: Vec<u8>) {
         let line = format!("open {}", hex(&sheet));
         self.line(&line);
-        if crate::sheets::check(&sheet) == 0 {
-            self.library = sheet;
-        }
     }
 
     fn open_any(&mut self) {
@@ -359,11 +346,11 @@ impl Writer {
         self.open(sheet);
     }
 
-    // An output for a sheet of so many bytes: one in four as long, one a byte too short, one a little longer, one by chance.
+    // An output for so many bytes: one in four as long, one a byte too short, one a little longer, one by chance.
     fn output(&mut self, length: usize) -> Vec<u8> {
         let length = length as u64;
         let n = match self.numbers.below(4) {
-            0 => self.numbers.below(900),
+            0 => self.numbers.below(length + 200),
             1 => length,
             2 => length.saturating_sub(1),
             _ => length + self.numbers.below(3),
@@ -390,14 +377,11 @@ impl Writer {
 
     fn begin(&mut self) {
         self.line("begin");
-        if self.left == 0 {
-            self.left = self.library.len();
-        }
     }
 
     // An output of no places, of as many as bytes are left, of one less, of some more, of about what the longest sheet has, or by chance.
     fn take(&mut self) {
-        let left = self.left as u64;
+        let left = self.frame.left().len() as u64;
         let n = match self.numbers.weighted(&[10, 10, 10, 10, 2, 58]) {
             0 => 0,
             1 => left,
@@ -409,7 +393,6 @@ impl Writer {
         let out: Vec<u8> = (0..n).map(|_| self.numbers.next() as u8).collect();
         let line = format!("take {}", hex(&out));
         self.line(&line);
-        self.left = self.left.saturating_sub(out.len());
     }
 
     // Calls while there is something to go on with, mostly to its end: these, each with its weight, and any others with the last weight.
@@ -436,7 +419,11 @@ impl Writer {
     fn save(&mut self) -> u64 {
         self.begin();
         let calls = [Writer::take, Writer::open_any, Writer::begin];
-        1 + self.go_on(|writer| writer.left > 0, &calls, &[6, 2, 1, 3])
+        1 + self.go_on(
+            |writer| !writer.frame.left().is_empty(),
+            &calls,
+            &[6, 2, 1, 3],
+        )
     }
 
     fn tell(&mut self, head: u64) {
@@ -448,12 +435,10 @@ impl Writer {
         };
         let line = format!("tell {} {}", self.number(head), self.number(samples));
         self.line(&line);
-        self.rota.tell(head, samples);
     }
 
     fn turn(&mut self) {
         self.line("turn");
-        self.rota.turn();
     }
 
     // One telling in ten is of a head that is none.
@@ -471,23 +456,17 @@ impl Writer {
         let first = self.numbers.below(12);
         let some = 1 + self.numbers.below(18).min(11);
         (0..some).for_each(|k| self.tell((first + 7 * k) % 12));
-        let waits = |writer: &Writer| writer.rota.waiting().next().is_some();
+        let waits = |writer: &Writer| writer.frame.rota.waiting().next().is_some();
         let lines = self.go_on(waits, &[Writer::turn, Writer::tell_any], &[9, 1, 1]);
         self.turn();
         some + lines + 1
     }
 
     fn load(&mut self, head: u64) {
-        let library = self.library.clone();
+        let library = self.frame.library().to_vec();
         let entry = self.entry_number(&library);
         let line = format!("load {} {entry}", self.number(head));
         self.line(&line);
-        let entry: u64 = entry.parse().unwrap();
-        if !library.is_empty() && entry < u64::from(library[0]) {
-            if let Some(guess) = self.heads.get_mut(head as usize) {
-                guess.kind = Some(library[2 + entry as usize]);
-            }
-        }
     }
 
     fn run(&mut self, head: u64, outputs: usize) {
@@ -507,10 +486,7 @@ impl Writer {
     }
 
     fn mark_number(&mut self, head: u64) -> u64 {
-        let marks = self
-            .heads
-            .get(head as usize)
-            .map_or(0, |guess| guess.marks.len() as u64);
+        let marks = self.frame.marks(head) as u64;
         match self.numbers.weighted(&[80, 12, 8]) {
             0 if marks > 0 => self.numbers.below(marks),
             0 | 1 => marks,
@@ -527,27 +503,11 @@ impl Writer {
             self.number(mark)
         );
         self.line(&line);
-        if let Some(guess) = self.heads.get_mut(head as usize) {
-            if mark < guess.marks.len() as u64 {
-                let mark = mark as usize;
-                if back {
-                    guess.kind = Some(guess.marks[mark]);
-                    guess.marks.truncate(mark + 1);
-                } else {
-                    guess.marks.truncate(mark);
-                }
-            }
-        }
     }
 
     fn mark(&mut self, head: u64) {
         let line = format!("mark {}", self.number(head));
         self.line(&line);
-        if let Some(guess) = self.heads.get_mut(head as usize) {
-            if let (Some(kind), true) = (guess.kind, guess.marks.len() < 4) {
-                guess.marks.push(kind);
-            }
-        }
     }
 
     // Marks, runs and returns in quick turn on one head: a return inside an earlier return.
@@ -562,13 +522,183 @@ impl Writer {
                 _ => self.load(head),
             }
         }
-        let line = format!("head {head}\ncount {head}");
-        self.line(&line);
+        self.line(&format!("head {head}"));
+        self.line(&format!("count {head}"));
         turns + 2
     }
 
+    // The frame is saved, and kept to be restored.
+    fn close(&mut self) {
+        let rows = self.frame.rows();
+        let out = self.output(closing::bytes(&rows).len());
+        let line = format!("save {}", hex(&out));
+        self.line(&line);
+        if self.saved.len() < KEPT {
+            self.saved.push(rows);
+        } else {
+            let place = self.numbers.below(KEPT as u64) as usize;
+            self.saved[place] = rows;
+        }
+    }
+
+    // A frame that was saved is restored: as it was, with counts near the greatest, or changed. Then its heads are run.
+    fn restore(&mut self) -> u64 {
+        if self.saved.is_empty() || self.numbers.percent(10) {
+            self.close();
+        }
+        let place = self.numbers.below(self.saved.len() as u64) as usize;
+        let mut rows = self.saved[place].clone();
+        let how = self.numbers.weighted(&[20, 20, 45, 15]);
+        match how {
+            0 => {}
+            1 => self.raise_counts(&mut rows),
+            _ => self.change_rows(&mut rows),
+        }
+        let mut bytes = closing::bytes(&rows);
+        if how == 3 {
+            bytes = closing::bytes(&self.saved[place]);
+            self.change_bytes(&mut bytes);
+        }
+        let line = format!("restore {}", hex(&bytes));
+        self.line(&line);
+        let filled: Vec<u64> = (0..12)
+            .filter(|h| self.frame.type_at(*h).is_some())
+            .collect();
+        if filled.is_empty() || self.numbers.percent(40) {
+            return 1;
+        }
+        let some = 1 + self.numbers.below(5);
+        self.favourites = (0..some).map(|_| self.numbers.pick(&filled)).collect();
+        let head = self.favourites[0];
+        1 + self.returns(head)
+    }
+
+    // So near that some short runs reach the greatest count.
+    fn raise_counts(&mut self, rows: &mut [Row]) {
+        for row in rows.iter_mut().filter(|row| !row.is_empty()) {
+            let less = match self.numbers.weighted(&[1, 3, 3, 1]) {
+                0 => 0,
+                1 => self.numbers.below(8),
+                2 => self.numbers.below(40),
+                _ => u64::from(row.count),
+            };
+            row.count = u32::MAX - less as u32;
+        }
+    }
+
+    // A word that a filter may retain.
+    fn retained(&mut self) -> u32 {
+        word_of(f32::from_bits(self.sample_word()))
+    }
+
+    // One change of a frame's rows. Some changes make another frame, most make what is none.
+    fn change_rows(&mut self, rows: &mut Vec<Row>) {
+        let mut places = [(); 2].map(|_| self.numbers.below(rows.len() as u64) as usize);
+        let change = self.numbers.below(18);
+        // Most concern a filter's row, some an empty head's first, where there are such.
+        for (place, of_filter) in places.iter_mut().zip([change > 3, true]) {
+            let such: Vec<usize> = (0..rows.len())
+                .filter(|at| rows[*at].is_empty() != of_filter)
+                .collect();
+            if !such.is_empty() && !self.numbers.percent(5) {
+                *place = self.numbers.pick(&such);
+            }
+        }
+        let [at, other] = places;
+        let head = rows[at].head;
+        match change {
+            // An empty head's record, and a mark of an empty head.
+            0 => rows[at].count = 1 << self.numbers.below(32),
+            1 => rows[at].words[self.numbers.below(8) as usize] = 1 << self.numbers.below(32),
+            2 | 3 => {
+                let mut mark = rows[other].clone();
+                mark.head = head;
+                rows.insert(at + 1, mark);
+            }
+            4 => rows.insert(at + 1, Row::of(head, None, 0)),
+            5 => rows.insert(at, rows[at].clone()),
+            6 => {
+                rows.remove(at);
+            }
+            7 => rows.swap(at, other),
+            // Two heads change places, each with its marks.
+            8 => {
+                let with = rows[other].head;
+                for row in rows.iter_mut() {
+                    if row.head == head {
+                        row.head = with;
+                    } else if row.head == with {
+                        row.head = head;
+                    }
+                }
+                rows.sort_by_key(|row| row.head);
+            }
+            // The marks of every head in reverse order.
+            9 => {
+                for of in rows.chunk_by_mut(|a, b| a.head == b.head) {
+                    of[1..].reverse();
+                }
+            }
+            // Five marks.
+            10 => fill(rows, at, 6),
+            // Four marks at all heads.
+            11 => {
+                let one = rows[at].clone();
+                for head in 0..12 {
+                    let of = rows.iter().position(|row| row.head == head).unwrap();
+                    if rows[of].is_empty() {
+                        rows[of] = Row {
+                            head,
+                            ..one.clone()
+                        };
+                    }
+                    fill(rows, of, 5);
+                }
+            }
+            12 => rows.push(Row::of(12, None, 0)),
+            13 => rows.last_mut().unwrap().head = self.numbers.pick(&[0, 10, 12, 13, 255]),
+            14 => rows[at].filter = self.numbers.pick(&[1, 2, 3, 4, 5, 6, 7, 8, 16, 255]),
+            15 => {
+                let used = rows[at].split().0.len().max(1) as u64;
+                rows[at].words[self.numbers.below(used) as usize] =
+                    self.numbers
+                        .pick(&[0x7F80_0001, 0x7FC0_0001, 0xFFC0_0000, 0xFFFF_FFFF]);
+            }
+            16 => {
+                let used = rows[at].split().0.len() as u64;
+                let word = (used + self.numbers.below(9 - used)).min(7) as usize;
+                rows[at].words[word] = 1 << self.numbers.below(32);
+            }
+            _ => {
+                for word in 0..rows[at].split().0.len() {
+                    rows[at].words[word] = self.retained();
+                }
+            }
+        }
+    }
+
+    // One change of a frame's bytes.
+    fn change_bytes(&mut self, bytes: &mut Vec<u8>) {
+        let at = self.numbers.below(bytes.len() as u64) as usize;
+        match self.numbers.below(6) {
+            0 => bytes[at] = self.numbers.next() as u8,
+            1 => bytes[at] ^= 1 << self.numbers.below(8),
+            2 => bytes.truncate(at),
+            3 => bytes.extend(vec![0; self.numbers.pick(&[1, 2, 36, 37, 38, 39])]),
+            4 => {
+                let s = u16::from_le_bytes([bytes[0], bytes[1]]);
+                let s = self.numbers.pick(&[0, 11, 12, 61, s - 1, s + 1, s + 256]);
+                bytes[..2].copy_from_slice(&s.to_le_bytes());
+            }
+            _ => {
+                let filter = 3 + 2 * self.numbers.below(u64::from(bytes[0])) as usize;
+                bytes[filter] = self.numbers.below(10) as u8;
+            }
+        }
+    }
+
     fn bad_line(&mut self) {
-        const BAD: [&str; 75] = [
+        const BAD: [&str; 81] = [
             "x",
             " ",
             "open",
@@ -644,6 +774,12 @@ impl Writer {
             "turn 0",
             "turn none",
             "turns",
+            "save",
+            "save 0",
+            "save - -",
+            "restore",
+            "restore ee 0",
+            "restores -",
         ];
         match self.numbers.weighted(&[90, 8, 1, 1]) {
             0 => {
@@ -695,7 +831,8 @@ impl Writer {
     fn step_on(&mut self) -> u64 {
         let head = self.head();
         match self.numbers.weighted(&[
-            330, 130, 100, 60, 60, 35, 50, 40, 20, 20, 20, 20, 20, 20, 40, 5, 8, 6, 5, 4, 4, 8,
+            330, 130, 100, 60, 60, 35, 50, 40, 20, 20, 20, 20, 20, 20, 40, 5, 8, 6, 5, 4, 4, 6, 12,
+            8,
         ]) {
             0 => self.run(head, 1),
             1 => self.run(head, 2),
@@ -713,7 +850,7 @@ impl Writer {
             }
             8 => self.open_any(),
             9 => {
-                let out = self.output(self.library.len());
+                let out = self.output(self.frame.library().len());
                 let line = format!("write {}", hex(&out));
                 self.line(&line);
             }
@@ -735,6 +872,8 @@ impl Writer {
             18 => self.tell_any(),
             19 => self.turn(),
             20 => return self.tellings(),
+            21 => self.close(),
+            22 => return self.restore(),
             _ => match self.numbers.weighted(&[80, 10, 9, 1]) {
                 0 => self.bad_line(),
                 1 => self.line(""),
@@ -748,16 +887,14 @@ impl Writer {
     /// A history of about so many lines.
     pub fn history(&mut self, lines: u64) -> Vec<u8> {
         self.text.clear();
-        self.library.clear();
-        self.left = 0;
-        self.rota = Rota::default();
-        self.heads = vec![Guess::default(); 12];
+        self.frame = Frame::fresh(false);
         let some = 1 + self.numbers.below(5);
         self.favourites = (0..some).map(|_| self.numbers.below(12)).collect();
-        // Before there is a library to save.
+        // Before there is a library to save, or a filter.
         if self.numbers.percent(30) {
             self.begin();
             self.take();
+            self.close();
         }
         if self.numbers.percent(95) {
             let sheet = self.sheet();
@@ -767,9 +904,10 @@ impl Writer {
         while done < lines {
             done += self.step_on();
         }
-        // What is left of a save, and the library, of which the longest has 834 bytes; a turn for each head that still waits.
+        // What is left of a save, and the library, of which the longest has 834 bytes; all heads; a turn for each that still waits.
         self.line(&lend("take", 834));
         self.line(&lend("write", 834));
+        self.line(&lend("save", 2282));
         (0..12).for_each(|_| self.turn());
         if self.numbers.percent(50) {
             self.text.pop();
@@ -797,6 +935,7 @@ impl Alphabet {
             "short" => Some(SHORT),
             "saves" => Some(SAVES),
             "rota" => Some(ROTA),
+            "closings" => Some(CLOSINGS),
             _ => None,
         }
     }
@@ -908,6 +1047,52 @@ const ROTA: Alphabet = Alphabet {
     end: |_| format!("{}tell 11 1\nturn\n", "turn\n".repeat(6)),
 };
 
+/// Two frames are restored among a head's calls: one where the head has a naive filter with a mark, two samples below the greatest count, so
+/// that the next run but one is refused; and one where it is empty, and its neighbour is not. At the end the frame is saved, and emptied for
+/// the next list.
+const CLOSINGS: Alphabet = Alphabet {
+    calls: "restores and a head's calls",
+    together: 64,
+    start: |_| "open 0100040000803f0000803f0000803e\n".to_string(),
+    letters: |_| {
+        let filter = |head, name, words: &[u32], count| {
+            let fields: Vec<f32> = words.iter().map(|w| f32::from_bits(*w)).collect();
+            Row::of(head, Some(Filter::from_shown(name, &fields)), count)
+        };
+        let naive = |lp| filter(0, "naive", &[0x3F00_0000, 0x3F80_0000, lp, 1], u32::MAX - 2);
+        let other = filter(1, "onepole", &[0x3F80_0000, 0x3F00_0000, 0xBF80_0000], 5);
+        let [near, apart] = [vec![naive(0x3F80_0000), naive(0)], vec![other]].map(|rows| {
+            let rows = with_empty(rows);
+            format!("restore {}", hex(&closing::bytes(&rows)))
+        });
+        vec![
+            near,
+            apart,
+            "load 0 0".to_string(),
+            "run 0 plain:low 3f800000bf000000 0000000000000000".to_string(),
+            "rest 0".to_string(),
+            "mark 0".to_string(),
+            "back 0 0".to_string(),
+            "drop 0 0".to_string(),
+        ]
+    },
+    end: |_| {
+        let empty = closing::bytes(&with_empty(Vec::new()));
+        format!("{}\nrestore {}\n", lend("save", 612), hex(&empty))
+    },
+};
+
+/// These rows, and an empty one for each head that has none.
+fn with_empty(mut rows: Vec<Row>) -> Vec<Row> {
+    for head in 0..12 {
+        if rows.iter().all(|row| row.head != head) {
+            rows.push(Row::of(head, None, 0));
+        }
+    }
+    rows.sort_by_key(|row| row.head);
+    rows
+}
+
 /// Every change of one byte of a valid sheet of each kind byte, of one with all seven kinds, of those in Exact at -0.497, -0.25 and -0.0, and
 /// of sheets of edition 2: every value at every place, every truncation, and every byte behind. Each goes through check and lookup by both
 /// readers and through open, the entry is loaded and shown, and the sheet is converted to both editions.
@@ -978,6 +1163,88 @@ pub fn sheet_changes() -> impl Iterator<Item = Vec<u8>> {
             })
             .collect::<Vec<_>>()
     })
+}
+
+/// A frame with a filter of each type, among them a NaN, an infinity and a subnormal, with marks, and with empty heads between.
+fn frame_to_change() -> Vec<Row> {
+    let kinds = [1, 2, 4, 5, 6, 7];
+    let mut sheet = vec![kinds.len() as u8, EDITION_1];
+    sheet.extend(kinds);
+    for kind in kinds {
+        let words: [u32; 3] = match kind {
+            1 | 2 => [0x3E4C_CCCD, 0, 0],
+            4 => [0x3F80_0000, 0x3F80_0000, 0x3E80_0000],
+            _ => [0x3E4C_CCCD, 0x3F00_0000, 0],
+        };
+        words.iter().for_each(|w| sheet.extend(w.to_le_bytes()));
+    }
+    let mut text = format!("open {}\n", hex(&sheet));
+    for (entry, head) in [0, 2, 3, 5, 8, 11].into_iter().enumerate() {
+        text.push_str(&format!("load {head} {entry}\n"));
+    }
+    for line in [
+        "run 0 plain:low 00000001bf800000 0000000000000000",
+        "mark 3",
+        "run 3 plain:low 3f8000007f800000 0000000000000000",
+        "mark 3",
+        "run 8 plain:band 3f8000007fc00000 0000000000000000",
+        "mark 8",
+        "rest 8",
+        "run 11 plain:high 3f800000 00000000",
+    ] {
+        text.push_str(line);
+        text.push('\n');
+    }
+    standing(&text)
+}
+
+/// What stands after these lines on a fresh frame.
+fn standing(text: &str) -> Vec<Row> {
+    let mut writer = Writer::new(0);
+    text.lines().for_each(|line| writer.line(line));
+    writer.frame.rows()
+}
+
+/// Every change of one byte of a saved frame, every value at every place, every cut, and every byte behind. Each is restored where the frame
+/// itself stands, or what the change before made of it, and what stands then is saved.
+pub fn frame_changes() -> impl Iterator<Item = Vec<u8>> {
+    let saved = closing::bytes(&frame_to_change());
+    let mut changed = Vec::new();
+    for place in 0..saved.len() {
+        for value in 0..=255 {
+            let mut s = saved.clone();
+            s[place] = value;
+            changed.push(s);
+        }
+    }
+    for n in 0..saved.len() {
+        changed.push(saved[..n].to_vec());
+    }
+    for value in 0..=255 {
+        let mut s = saved.clone();
+        s.push(value);
+        changed.push(s);
+    }
+    let first = format!("restore {}\n", hex(&saved));
+    let last = format!("{}\n", lend("save", saved.len()));
+    changed
+        .chunks(1000)
+        .map(|chunk| {
+            let mut text = first.clone();
+            for s in chunk {
+                text.push_str(&format!("restore {}\n{last}", hex(s)));
+            }
+            text.into_bytes()
+        })
+        .collect::<Vec<_>>()
+        .into_iter()
+}
+
+/// As many rows of a row's head, by copies of it.
+fn fill(rows: &mut Vec<Row>, at: usize, wanted: usize) {
+    let row = rows[at].clone();
+    let there = rows.iter().filter(|of| of.head == row.head).count();
+    rows.splice(at..at, vec![row; wanted.saturating_sub(there)]);
 }
 
 /// The fixed list: a call of each kind with each answer that it gives, then a short random history.
@@ -1168,6 +1435,81 @@ pub fn sample(seed: u64) -> Vec<u8> {
          tell 3 65535\n",
     );
     text.push_str(&"turn\n".repeat(257));
+    text.push_str("\n# The frame is saved: into an output a place too short, as long, longer. It is restored, and goes on from there.\n");
+    let saved = standing(&text);
+    let length = closing::bytes(&saved).len();
+    for places in [length - 1, length, length + 2] {
+        text.push_str(&format!("{}\n", lend("save", places)));
+    }
+    let restore = |rows: &[Row]| format!("restore {}\n", hex(&closing::bytes(rows)));
+    text.push_str("load 2 0\ndrop 2 0\nrest 4\nrun 3 plain:low 3f800000 00000000\nbegin\ntake ee\ntell 6 257\n");
+    text.push_str(&restore(&saved));
+    for h in [2, 3, 4, 10] {
+        text.push_str(&format!("head {h}\ncount {h}\n"));
+    }
+    text.push_str("run 3 stride:low:2 3f8000003f800000 0000000000000000\nback 2 1\nmark 2\nrest 2\nhead 2\nload 2 0\ncount 2\nturn\nturn\ntake eeeeeeeeeeeeeeeeeeeeeeeeeeeeee\n");
+    text.push_str(
+        "\n# An empty frame; the longest one; one whose heads come to the greatest count.\n",
+    );
+    text.push_str(&restore(&with_empty(Vec::new())));
+    text.push_str(&format!("{}\n{}\n", lend("save", 457), lend("save", 458)));
+    text.push_str("rest 2\nmark 2\nback 2 0\nrun 2 plain:low - -\nload 2 0\n");
+    let filters: Vec<&Row> = saved.iter().filter(|row| !row.is_empty()).collect();
+    let longest: Vec<Row> = (0..60)
+        .map(|k| Row {
+            head: k as u8 / 5,
+            count: k as u32,
+            ..filters[k % filters.len()].clone()
+        })
+        .collect();
+    text.push_str(&restore(&longest));
+    text.push_str("mark 11\nback 11 3\nhead 11\ncount 11\n");
+    text.push_str(&format!("{}\n{}\n", lend("save", 2281), lend("save", 2283)));
+    let mut near = saved.clone();
+    for row in near.iter_mut().filter(|row| !row.is_empty()) {
+        row.count = u32::MAX - 2;
+    }
+    text.push_str(&restore(&near));
+    for h in [2, 3, 5] {
+        for n in [3, 2, 0, 1] {
+            let samples = "3f800000".repeat(n);
+            let samples = if n == 0 { "-" } else { &samples };
+            text.push_str(&format!(
+                "run {h} plain:low {samples} {samples}\ncount {h}\n"
+            ));
+        }
+        text.push_str(&format!(
+            "two {h} pair:low:high 3f800000 00000000 00000000\nrest {h}\ncount {h}\n"
+        ));
+    }
+    text.push_str(
+        "\n# What is no saved frame.\nrestore -\nrestore 0c\nrestore 0c00\nrestore 0000\n",
+    );
+    for rule in 0..9 {
+        let mut rows = saved.clone();
+        let filter = rows.iter().position(|row| row.filter == 3).unwrap();
+        let none = rows.iter().position(Row::is_empty).unwrap();
+        match rule {
+            0 => rows.swap(0, filter),
+            1 => fill(&mut rows, filter, 6),
+            2 => rows[filter].filter = 7,
+            3 => rows.insert(filter + 1, Row::of(rows[filter].head, None, 0)),
+            4 => rows.insert(
+                none + 1,
+                Row {
+                    head: rows[none].head,
+                    ..rows[filter].clone()
+                },
+            ),
+            5 => rows[filter].words[7] = 0x8000_0000,
+            6 => rows[filter].words[3] = 0xFFC0_0000,
+            7 => rows[none].count = 1,
+            _ => rows.push(Row::of(12, None, 0)),
+        }
+        text.push_str(&restore(&rows));
+    }
+    text.push_str("head 2\nhead 3\ncount 3\n");
+    text.push_str(&restore(&saved));
     text.push_str("\n# Exact below 0.\n");
     for kind in [2u8, 3, 5] {
         for f in MIRRORED {

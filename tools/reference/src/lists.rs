@@ -1,5 +1,6 @@
 //! Kept lists, and the calls in their terms.
 
+use crate::closing::{self, Row};
 use crate::filters::{has_form, loaded, type_of, Filter, Form};
 use crate::rota::Rota;
 use crate::sheets;
@@ -10,8 +11,12 @@ pub fn counts(count: u64, n: usize) -> bool {
     count + n as u64 <= u64::from(u32::MAX)
 }
 
-/// What an accepted call adds to a head's list.
+/// What an accepted call adds to a head's list. A restore begins it anew, with the filter and its count.
 enum Item {
+    Restored {
+        filter: Filter,
+        count: u32,
+    },
     Load {
         kind: u8,
         approximation: u8,
@@ -28,8 +33,8 @@ enum Item {
 struct Node {
     item: Item,
     before: List,
-    // The kind of the last load in the list.
-    kind: u8,
+    // The type that the last load or the restore put in.
+    of: &'static str,
     // The list's count and its filter, which `--replay` does not read.
     count: u64,
     filter: Filter,
@@ -54,6 +59,7 @@ impl Drop for List {
 
 fn apply(item: &Item, filter: Option<Filter>) -> Filter {
     match item {
+        Item::Restored { filter, .. } => filter.clone(),
         Item::Load {
             kind,
             approximation,
@@ -84,11 +90,24 @@ impl List {
         self.0.is_none()
     }
 
-    fn kind(&self) -> Option<u8> {
-        self.0.as_ref().map(|node| node.kind)
+    fn of(&self) -> Option<&'static str> {
+        self.0.as_ref().map(|node| node.of)
     }
 
-    // The samples of its runs since its last load.
+    // Whether its filter was restored, and no load came after that.
+    fn is_restored(&self) -> bool {
+        let mut list = self;
+        while let Some(node) = &list.0 {
+            match &node.item {
+                Item::Restored { .. } => return true,
+                Item::Load { .. } => return false,
+                Item::Run { .. } | Item::Rest => list = &node.before,
+            }
+        }
+        false
+    }
+
+    // The samples of its runs since its last load, and where there is none what it was restored with.
     fn count(&self, replay: bool) -> u64 {
         if !replay {
             return self.0.as_ref().map_or(0, |node| node.count);
@@ -98,6 +117,10 @@ impl List {
         while let Some(node) = &list.0 {
             match &node.item {
                 Item::Load { .. } => break,
+                Item::Restored { count, .. } => {
+                    sum += u64::from(*count);
+                    break;
+                }
                 Item::Run { samples, .. } => sum += samples.len() as u64,
                 Item::Rest => {}
             }
@@ -128,11 +151,13 @@ impl List {
     }
 
     fn with(&self, item: Item, filter: Filter) -> List {
-        let kind = match &item {
-            Item::Load { kind, .. } => *kind,
-            _ => self.kind().expect("a load stands first"),
+        let of = match &item {
+            Item::Restored { filter, .. } => filter.shown().0,
+            Item::Load { kind, .. } => type_of(*kind),
+            _ => self.of().expect("a load or a restored filter stands first"),
         };
         let count = match &item {
+            Item::Restored { count, .. } => u64::from(*count),
             Item::Load { .. } => 0,
             Item::Run { samples, .. } => self.count(false) + samples.len() as u64,
             Item::Rest => self.count(false),
@@ -140,10 +165,31 @@ impl List {
         List(Some(Rc::new(Node {
             item,
             before: self.clone(),
-            kind,
+            of,
             count,
             filter,
         })))
+    }
+
+    // The list of one item that a row of a saved frame opens, or the empty one.
+    fn opened(row: &Row) -> List {
+        let empty = List::default();
+        match row.filter() {
+            Some(filter) => {
+                let item = Item::Restored {
+                    filter: filter.clone(),
+                    count: row.count,
+                };
+                empty.with(item, filter)
+            }
+            None => empty,
+        }
+    }
+
+    fn row(&self, head: u8, replay: bool) -> Row {
+        let count =
+            u32::try_from(self.count(replay)).expect("no more than refusal 18 lets through");
+        Row::of(head, self.filter(replay), count)
     }
 }
 
@@ -186,9 +232,24 @@ impl Frame {
             .and_then(|h| self.heads.get_mut(h))
     }
 
-    /// The type of a head's filter, by the last load in its list.
+    /// The type of a head's filter, by the last load in its list or by the restore that opens it.
     pub fn type_at(&mut self, head: u64) -> Option<&'static str> {
-        self.head(head)?.list.kind().map(type_of)
+        self.head(head)?.list.of()
+    }
+
+    /// Whether a head's filter was restored, and not loaded since.
+    pub fn is_restored(&mut self, head: u64) -> bool {
+        self.head(head).is_some_and(|head| head.list.is_restored())
+    }
+
+    /// How many marks a head has; none above 11.
+    pub fn marks(&mut self, head: u64) -> usize {
+        self.head(head).map_or(0, |head| head.row.len())
+    }
+
+    /// The sheet of the last accepted open.
+    pub fn library(&self) -> &[u8] {
+        &self.library
     }
 
     /// The kind byte of an entry.
@@ -237,10 +298,10 @@ impl Frame {
         let Some(head) = self.head(head) else {
             return 1;
         };
-        let Some(kind) = head.list.kind() else {
+        let Some(of) = head.list.of() else {
             return 6;
         };
-        if !has_form(type_of(kind), outputs.len(), &form) {
+        if !has_form(of, outputs.len(), &form) {
             return 9;
         }
         if let Form::Stride(_, 0) | Form::Decimate(_, 0) = form {
@@ -371,6 +432,42 @@ impl Frame {
     /// Whether what is left is no end of the library, so that it can only be another sheet's.
     pub fn saves_another(&self) -> bool {
         !self.left.is_empty() && !self.library.ends_with(&self.left)
+    }
+
+    /// What a saved frame has of the heads: for each its own list's row, then those of its marks, oldest first.
+    pub fn rows(&self) -> Vec<Row> {
+        let row = |head: usize, list: &List| list.row(head as u8, self.replay);
+        let mut rows = Vec::new();
+        for (place, head) in self.heads.iter().enumerate() {
+            rows.push(row(place, &head.list));
+            rows.extend(head.row.iter().map(|list| row(place, list)));
+        }
+        rows
+    }
+
+    /// The length of the saved frame that was written, or the refusal. Places behind it are as lent.
+    pub fn save(&self, out: &mut [u8]) -> Result<usize, u8> {
+        let saved = closing::bytes(&self.rows());
+        let to = out.get_mut(..saved.len()).ok_or(12)?;
+        to.copy_from_slice(&saved);
+        Ok(saved.len())
+    }
+
+    /// Each row of a saved frame opens a list of its own: a head's first row that of the head, each further row a mark's.
+    pub fn restore(&mut self, saved: &[u8]) -> u8 {
+        if !closing::broken(saved).is_empty() {
+            return 20;
+        }
+        let rows = closing::rows(saved).expect("rows, where no rule is broken");
+        for (place, head) in self.heads.iter_mut().enumerate() {
+            let mut lists = rows
+                .iter()
+                .filter(|row| usize::from(row.head) == place)
+                .map(List::opened);
+            head.list = lists.next().expect("a row for each head");
+            head.row = lists.collect();
+        }
+        0
     }
 
     /// The filter of a head and those of its marks, `None` for an empty one; nothing for a head above 11.

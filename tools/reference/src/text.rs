@@ -1,7 +1,8 @@
 //! The text of calls: a line in, its answer out.
 
+use crate::closing::{self, Row};
 use crate::counts::Counts;
-use crate::filters::{type_of, Filter, Form, Mode};
+use crate::filters::{type_of, word_of, Filter, Form, Mode, NAN};
 use crate::lists::Frame;
 use crate::sheets;
 
@@ -9,6 +10,8 @@ pub const LONGEST_LINE: usize = 65_535;
 const MOST_SAMPLES: usize = 1_024;
 const MOST_BYTES: usize = 4_096;
 const MOST_TOLD: u64 = 65_535;
+/// So few samples below the greatest count a short run is refused.
+const NEAR: u32 = 100;
 
 fn number(word: &[u8]) -> Option<u64> {
     if word.is_empty() || word.len() > 20 || !word.iter().all(u8::is_ascii_digit) {
@@ -37,7 +40,7 @@ fn bytes(word: &[u8]) -> Option<Vec<u8>> {
 fn float(bits: u32) -> f32 {
     let x = f32::from_bits(bits);
     if x.is_nan() {
-        f32::from_bits(0x7FC0_0000)
+        f32::from_bits(NAN)
     } else {
         x
     }
@@ -89,8 +92,7 @@ fn form(text: &[u8]) -> Option<Form> {
 }
 
 fn put_word(x: f32, to: &mut String) {
-    let bits = if x.is_nan() { 0x7FC0_0000 } else { x.to_bits() };
-    put_hex(&bits.to_be_bytes(), to);
+    put_hex(&word_of(x).to_be_bytes(), to);
 }
 
 fn put_hex(bytes: &[u8], to: &mut String) {
@@ -177,6 +179,53 @@ fn judged(name: &str, number: u8, counts: &mut Counts) {
     }
 }
 
+// Counts what became of a call at a head whose filter was restored, and not loaded since.
+fn after_restore(frame: &mut Frame, name: &str, head: u64, number: u8, counts: &mut Counts) {
+    if frame.is_restored(head) {
+        judged(&format!("{name} of a restored filter"), number, counts);
+    }
+}
+
+// Counts what a restore met: the rule that its bytes break, where it is one alone, or what it changed and left.
+fn restored(frame: &Frame, before: &[Row], saved: &[u8], counts: &mut Counts) {
+    if let [rule] = closing::broken(saved)[..] {
+        counts.add(&format!("restore against {rule}"), 1);
+    }
+    let Some(rows) = closing::rows(saved).filter(|_| closing::broken(saved).is_empty()) else {
+        return;
+    };
+    let near = |row: &Row| row.count > u32::MAX - NEAR;
+    let of_nan = |row: &&Row| row.words.contains(&NAN);
+    let filters = rows.iter().filter(|row| !row.is_empty()).count();
+    counts.add("filters restored", filters as u64);
+    counts.add(
+        "filters restored with a NaN",
+        rows.iter().filter(of_nan).count() as u64,
+    );
+    counts.add_each(&[
+        ("restore of another frame", rows != before),
+        ("restore of an empty frame", rows.iter().all(Row::is_empty)),
+        ("restore of marks", rows.len() > 12),
+        ("restore of four marks at all heads", rows.len() == 60),
+        (
+            "restore of a NaN",
+            rows.iter().any(|row| row.words.contains(&NAN)),
+        ),
+        (
+            "restore of a count near the greatest",
+            rows.iter().any(near),
+        ),
+        (
+            "restore while a save is unfinished",
+            !frame.left().is_empty(),
+        ),
+        (
+            "restore while a head waits",
+            frame.rota.waiting().next().is_some(),
+        ),
+    ]);
+}
+
 // Counts that a head was run or loaded while it waits.
 fn while_it_waits(frame: &Frame, name: &str, head: u64, number: u8, counts: &mut Counts) {
     if number == 0 && frame.rota.waits(head) {
@@ -217,6 +266,14 @@ fn run(
             }
         }
     }
+    if refusal == 0 && frame.count(head) == Some(u64::from(u32::MAX)) {
+        let some = !input.is_empty() && outputs.iter().all(|out| !out.is_empty());
+        counts.add_each(&[
+            ("run up to the greatest count", some),
+            ("run of no samples at the greatest count", !some),
+        ]);
+    }
+    after_restore(frame, name, head, refusal, counts);
     while_it_waits(frame, name, head, refusal, counts);
     numbered(name, refusal, counts, to);
     for out in &outputs {
@@ -309,6 +366,7 @@ fn call(frame: &mut Frame, line: &[u8], counts: &mut Counts, to: &mut String) ->
                 counts.add("rest of a sample that reset leaves", 1);
             }
             let refusal = frame.rest(head);
+            after_restore(frame, "rest", head, refusal, counts);
             numbered("rest", refusal, counts, to);
         }
         [b"mark", head] => match frame.mark(number(head)?) {
@@ -319,7 +377,9 @@ fn call(frame: &mut Frame, line: &[u8], counts: &mut Counts, to: &mut String) ->
             Err(refusal) => numbered("mark", refusal, counts, to),
         },
         [b"back", head, mark] => {
-            let refusal = frame.back(number(head)?, number(mark)?);
+            let (head, mark) = (number(head)?, number(mark)?);
+            let refusal = frame.back(head, mark);
+            after_restore(frame, "back", head, refusal, counts);
             numbered("back", refusal, counts, to);
         }
         [b"drop", head, mark] => {
@@ -407,6 +467,29 @@ fn call(frame: &mut Frame, line: &[u8], counts: &mut Counts, to: &mut String) ->
                     to.push_str(" none");
                 }
             }
+        }
+        [b"save", out] => {
+            let mut out = bytes(out)?;
+            let answer = frame.save(&mut out);
+            judged("save", answer.err().unwrap_or(0), counts);
+            if let Ok(length) = answer {
+                let rows = closing::rows(&out[..length]).unwrap_or_default();
+                counts.add("rows saved", rows.len() as u64);
+                counts.add_each(&[
+                    ("save of an empty frame", rows.iter().all(Row::is_empty)),
+                    ("save of marks", rows.len() > 12),
+                    ("save with places left over", length < out.len()),
+                ]);
+            }
+            put_written("save", answer, &out, counts, to);
+        }
+        [b"restore", saved] => {
+            let saved = bytes(saved)?;
+            let before = frame.rows();
+            let number = frame.restore(&saved);
+            judged("restore", number, counts);
+            restored(frame, &before, &saved, counts);
+            numbered("restore", number, counts, to);
         }
         [b"convert", edition, sheet, out] => {
             let wanted = match edition {

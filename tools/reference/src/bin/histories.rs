@@ -1,7 +1,9 @@
 //! Gives histories to frame_calls and to the reference, and compares what they write byte for byte.
-//! `histories random --seed N --calls N --lines N`, `histories short|saves|rota --length N`, `histories sheets`, `histories sample`.
+//! `histories random --seed N --calls N --lines N`, `histories short|saves|rota|closings --length N`, `histories sheets`, `histories frames`,
+//! `histories sample`.
 //! A history gets a program of its own; the reference gets many, with `# fresh frame` between.
 
+use reference::closing::RULES;
 use reference::counts::Counts;
 use reference::histories::{self, Alphabet, Writer};
 use reference::text::is_silent;
@@ -13,8 +15,10 @@ const PROGRAM: &str = "crates/frame_calls/out/frame_calls";
 const REFERENCE: &str = "target/cargo/release/reference";
 const FOLDER: &str = "target/histories";
 
-/// The numbers of the refusals that there are, but for 18: a text that brings a head there has 69 GB. The program `count_limit` runs to it.
-const REFUSALS: [u8; 17] = [1, 2, 3, 4, 5, 6, 7, 8, 9, 10, 11, 12, 13, 14, 15, 16, 17];
+/// The numbers of the refusals that there are. Heads come to 18 by counts that are restored; `count_limit` runs all the samples.
+const REFUSALS: [u8; 19] = [
+    1, 2, 3, 4, 5, 6, 7, 8, 9, 10, 11, 12, 13, 14, 15, 16, 17, 18, 20,
+];
 
 /// How often each thing has to have been tried in a random run.
 const LEAST: u64 = 50;
@@ -156,6 +160,11 @@ fn differ(batch: &[Vec<u8>], answers: &[Vec<u8>], expected: &[u8]) -> ! {
     exit(1);
 }
 
+/// The rules of a saved frame that can be broken alone: where each head has its rows and four marks at most, their number is right.
+fn broken_alone() -> impl Iterator<Item = &'static str> {
+    RULES.into_iter().filter(|rule| *rule != "number of rows")
+}
+
 fn tried_enough(counts: &Counts) -> bool {
     let mut wanted: Vec<String> = REFUSALS.map(|n| format!("refusal {n}")).to_vec();
     let types = ["dc", "onepole", "svf", "naive", "modified", "crossover"];
@@ -220,9 +229,27 @@ fn tried_enough(counts: &Counts) -> bool {
         "two accepted while its head waits",
         "load accepted while its head waits",
         "call refused while a head waits",
+        "save refused 12",
+        "save with places left over",
+        "save of an empty frame",
+        "restore refused 20",
+        "restore of an empty frame",
+        "restore of four marks at all heads",
+        "restore of a NaN",
+        "restore of a count near the greatest",
+        "restore while a save is unfinished",
+        "restore while a head waits",
+        "run of a restored filter refused 9",
+        "run of a restored filter refused 18",
+        "two of a restored filter refused 18",
+        "rest of a restored filter accepted",
+        "back of a restored filter accepted",
+        "run up to the greatest count",
+        "run of no samples at the greatest count",
     ] {
         wanted.push(call.to_string());
     }
+    wanted.extend(broken_alone().map(|rule| format!("restore against {rule}")));
     let often = [
         "convert accepted",
         "convert of edition 1 to 1",
@@ -249,6 +276,13 @@ fn tried_enough(counts: &Counts) -> bool {
         "turn of the head last served",
         "turn past head 11",
         "turn while others wait",
+        "save accepted",
+        "save of marks",
+        "restore accepted",
+        "restore of another frame",
+        "restore of marks",
+        "run of a restored filter accepted",
+        "two of a restored filter accepted",
     ];
     let mut enough = true;
     for (what, least) in wanted
@@ -342,6 +376,32 @@ fn summary(counts: &Counts) {
         counts.of("call refused while a head waits"),
     );
     println!(
+        "saved frames: saves {}, rows {}, refused with 12 {}; restores {}, of another frame {}, with four marks at all heads {}, filters {}, with a NaN {}, while a save is unfinished {}, while a head waits {}; runs of a restored filter {}, rests {}, backs {}, runs up to the greatest count {}, refused with 18 {}; restores refused with 20 {}, against one rule alone: {}",
+        counts.of("save accepted"),
+        counts.of("rows saved"),
+        counts.of("save refused 12"),
+        counts.of("restore accepted"),
+        counts.of("restore of another frame"),
+        counts.of("restore of four marks at all heads"),
+        counts.of("filters restored"),
+        counts.of("filters restored with a NaN"),
+        counts.of("restore while a save is unfinished"),
+        counts.of("restore while a head waits"),
+        ["run", "two"]
+            .map(|call| counts.of(&format!("{call} of a restored filter accepted")))
+            .iter()
+            .sum::<u64>(),
+        counts.of("rest of a restored filter accepted"),
+        counts.of("back of a restored filter accepted"),
+        counts.of("run up to the greatest count"),
+        counts.of("refusal 18"),
+        counts.of("restore refused 20"),
+        broken_alone()
+            .map(|rule| format!("{rule} {}", counts.of(&format!("restore against {rule}"))))
+            .collect::<Vec<_>>()
+            .join(", "),
+    );
+    println!(
         "conversions: edition 1 to 2 {}, 2 to 1 {}, copies {}; refused with 12 {}, with 15 {}, as no sheet {}",
         counts.of("convert of edition 1 to 2"),
         counts.of("convert of edition 2 to 1"),
@@ -404,6 +464,17 @@ fn main() {
             );
             summary(&comparison.counts);
         }
+        Some("frames") => {
+            comparison.all(histories::frame_changes(), 8);
+            println!(
+                "histories: {} saved frames with one byte changed, cut or added, {} of them accepted, {} calls, {:.1} s: no difference",
+                comparison.counts.of("restore") - comparison.histories,
+                comparison.counts.of("restore accepted") - comparison.histories,
+                comparison.counts.of("calls"),
+                start.elapsed().as_secs_f64()
+            );
+            summary(&comparison.counts);
+        }
         Some("sample") => {
             use std::io::Write;
             std::io::stdout()
@@ -412,7 +483,9 @@ fn main() {
         }
         other => {
             let Some(alphabet) = other.and_then(Alphabet::named) else {
-                eprintln!("histories: random, short, saves, rota, sheets or sample");
+                eprintln!(
+                    "histories: random, short, saves, rota, closings, sheets, frames or sample"
+                );
                 exit(2);
             };
             let length = value(&arguments, "--length", 5) as u32;
