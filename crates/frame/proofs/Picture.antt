@@ -184,7 +184,7 @@ follows_save H out = go (eqb (save_number (heads_of H) out) 0) refl
     go false q = rw q
 
 -- the restored heads are those of the histories that they open
-restored_heads : (b : List ℕ) → restore_refusal b ≡ 0 → heads_in b ≡ table 12 (λ h. head_for (restored_history (get_or (heads_in b) h empty_head)))
+pub restored_heads : (b : List ℕ) → restore_refusal b ≡ 0 → heads_in b ≡ table 12 (λ h. head_for (restored_history (get_or (heads_in b) h empty_head)))
 restored_heads b q =
     let k = heads_return.kept b q in
     let xs = heads_in b in

@@ -7,7 +7,7 @@ use native.Mathlib.Omega.{arith}
 use borrow.Author.Tests.{eqb-true}
 use lib.Dec.{eqb, ltb}
 use lib.ListN.{get_or}
-use Rattle.sheets.specs.Sheet.{entries_of, entry_in, check_of}
+use Rattle.sheets.specs.Sheet.{entries_of, entry_in}
 use Rattle.sheets.specs.Rows.{Sheet}
 use Rattle.sheets.proofs.Rows.{check_sheet}
 use Rattle.library.specs.Library.{library_of, entry_at}
@@ -36,8 +36,8 @@ pub record Sound (H : Histories) : Type 0 where
   pub sheet : SoundSheet H.sheet
   pub each : (h : ℕ) → SoundHead (H.heads h)
 
-sound_open : (s : List ℕ) → check_of s ≡ 0 → SoundSheet s
-sound_open s e = record { held = of_sheet (check_sheet s e); entry = (same_entries s (check_sheet s e)).entry; whole = λ l. check_sheet s e }
+pub sheet_of : {s : List ℕ} → Sheet s → SoundSheet s
+sheet_of {s} p = record { held = of_sheet p; entry = (same_entries s p).entry; whole = λ l. p }
 
 either : (b : Bool) (x y : HeadHistory) → SoundHead x → SoundHead y → SoundHead (cond b x y)
 either true x y S R = S
@@ -55,12 +55,12 @@ past_head h n q = go (ltb 11 h) q
     go false q = q
 
 -- each head of an accepted restore opens a sound history
-sound_restored : (b : List ℕ) → restore_refusal b ≡ 0 → (h : ℕ) → SoundHead (restored_history (get_or (heads_in b) h empty_head))
+pub sound_restored : (b : List ℕ) → restore_refusal b ≡ 0 → (h : ℕ) → SoundHead (restored_history (get_or (heads_in b) h empty_head))
 sound_restored b q h = heads_kept.sound (get_or (heads_in b) h empty_head) (head_kept (heads_in b) (heads_return.kept b q).heads h)
 
 sound_accepted : (H : Histories) (c : Call) → Sound H → call_number H c ≡ 0 → Sound (grown H c)
 unfolding call_number
-sound_accepted H (opening s) S q = record { sheet = sound_open s q; each = S.each }
+sound_accepted H (opening s) S q = record { sheet = sheet_of (check_sheet s q); each = S.each }
 sound_accepted H (writing out) S q = S
 sound_accepted H (loading h e) S q = sound_at H h _ S (head.sound_loaded (H.heads h) (entry_in H.sheet e) (S.each h))
 sound_accepted H (at h a) S q =

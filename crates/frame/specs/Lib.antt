@@ -8,3 +8,4 @@ pub mod Counts
 pub mod Without
 pub mod Saves
 pub mod Feeding
+pub mod Closing

@@ -14,6 +14,7 @@ ghost use Rattle.frame.specs.Demand.{Demand3};
 ghost use Rattle.frame.specs.Counts.{Counts};
 ghost use Rattle.frame.specs.Saves.{Saving};
 ghost use Rattle.frame.specs.Feeding.{Feeding};
+ghost use Rattle.frame.specs.Closing.{Closing};
 
 use filter_core::Refusal;
 use heads::{Head, Snapshot};
@@ -243,4 +244,10 @@ pub fn opening_while_saving()
 #[tactic(auto, using(crate::proofs::Feeding::feeding))]
 pub fn one_worker_feeds_all()
     ensures { Feeding }
+{}
+
+// A frame that closes and opens again goes on from the same stitch: what is saved of it is restored exactly, and demand 3 holds from there.
+#[tactic(auto, using(crate::proofs::Closing::closing))]
+pub fn closing_time()
+    ensures { Closing }
 {}

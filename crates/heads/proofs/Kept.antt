@@ -1,26 +1,30 @@
 -- Every head that calls lead to is kept, and a kept head is the picture of the history that it opens when it is restored. Assumes nothing.
-use Prim.Native.Nat.{ℕ}
+use Prim.Native.Nat.{ℕ, ◌+◌}
 use mathlib.Core.Path.{◌≡◌, refl, ap, subst}
+use mathlib.Core.Bool.{Bool, true, false, cond}
 use mathlib.Core.List.{List, [], ◌∷◌, map}
 use mathlib.Core.Logic.{⊎_elim}
 use native.Mathlib.Omega.{arith}
+use lib.Dec.{eqb}
 use lib.ListN.{length, get_or, length-map}
 use Rattle.std.specs.Prelude.{Option, None, Some, IfSome}
 use Rattle.std.specs.List.{All}
-use Rattle.std.proofs.lemmas.List.Elements.{All-nil, All-cons, All-head, All-tail, All-map, All-weaker, All-get_or}
+use Rattle.std.proofs.lemmas.List.Elements.{All-nil, All-cons, All-head, All-tail, All-map, All-weaker, All-get_or, All-take, All-push}
 use Rattle.std.proofs.lemmas.Bool.{cases_lt}
 use Rattle.std.proofs.lemmas.List.{get_or_past, get_or_default}
-use Rattle.any_filter.specs.Binary32.{HeldByBinary32}
+use Rattle.filter_core.specs.Buffer.{within}
+use Rattle.any_filter.specs.Binary32.{IsBinary32, HeldByBinary32}
 use Rattle.any_filter.specs.declared.Filter.{Filter}
-use Rattle.heads.specs.History.{Event, restored_event, HeadHistory, type_from, since_from, samples_in, snapshot_from, snapshot_of}
+use Rattle.heads.specs.Act.{Act, run, run_two, rest, mark, back, drop, count}
+use Rattle.heads.specs.History.{Event, load_event, run_event, rest_event, restored_event, HeadHistory, act_number, adding, grown_by, advance_by, type_from, since_from, samples_in, snapshot_from, snapshot_of}
 use Rattle.heads.specs.Follows.{head_for, held, Good, SoundHead}
-use Rattle.heads.specs.Binary32.{EventHeld, EventsHeld}
+use Rattle.heads.specs.Binary32.{EventHeld, EventsHeld, ActLent}
 use Rattle.heads.specs.Kept.{KeptSnapshot, KeptMark, KeptHead, opened_by, restored_list, restored_history, HeldHead, HeadsKept}
 use Rattle.heads.specs.declared.Snapshot.{Snapshot}
 use Rattle.heads.specs.declared.Head.{Head}
 use Rattle.heads.proofs.Counts.{count_is}
 use Rattle.heads.proofs.Sound.{good_none, no_cons, no_events}
-use Rattle.heads.proofs.Binary32.{held_of}
+use Rattle.heads.proofs.Binary32.{held_of, events_held_snoc}
 
 -- ---- of a restored snapshot
 
@@ -124,5 +128,43 @@ kept x S h =
       of_empty = λ e. ap (map snapshot_of) (S.of_empty (no_events x.history _ S.good.fits e));
     }
 
+-- ---- what calls add to histories that are held
+
+module _ (x : HeadHistory) (h : HeldHead x) where
+  held_adding : (i : Event) → EventHeld i → HeldHead (adding x i)
+  held_adding i q = record { history = events_held_snoc x.history i h.history q; checkpoints = h.checkpoints }
+
+  checkpoint_held : (m : ℕ) → EventsHeld (get_or x.checkpoints m [])
+  checkpoint_held m =
+      ⊎_elim (λ l. All-get_or EventsHeld x.checkpoints m [] l h.checkpoints) (λ l. rw (get_or_past x.checkpoints m [] l) (All-nil EventHeld))
+      (cases_lt m (length x.checkpoints))
+
+  pub held_grown : (a : Act) → ActLent a → HeldHead (grown_by x a)
+  held_grown (run form us ys) q = held_adding (run_event form (within us ys)) (All-take IsBinary32 (length ys) us q)
+  held_grown (run_two form us ys zs) q =
+      held_adding (run_event form (within (within us ys) zs)) (All-take IsBinary32 (length zs) (within us ys) (All-take IsBinary32 (length ys) us q))
+  held_grown rest q = held_adding rest_event tt
+  held_grown mark q = record { history = h.history; checkpoints = All-push EventsHeld x.checkpoints x.history h.checkpoints h.history }
+  held_grown (back m) q = record { history = checkpoint_held m; checkpoints = All-take EventsHeld (m + 1) x.checkpoints h.checkpoints }
+  held_grown (drop m) q = record { history = h.history; checkpoints = All-take EventsHeld m x.checkpoints h.checkpoints }
+  held_grown count q = h
+
+  held_advance : (a : Act) → ActLent a → HeldHead (advance_by x a)
+  unfolding advance_by
+  held_advance a q = go (eqb (act_number x a) 0)
+    where
+      go : (b : Bool) → HeldHead (cond b (grown_by x a) x)
+      go true = held_grown a q
+      go false = h
+
 pub heads_kept : HeadsKept
-heads_kept = record { kept = kept; restored = restored; sound = sound; held = held_head }
+heads_kept =
+    record {
+      kept = kept;
+      restored = restored;
+      sound = sound;
+      held = held_head;
+      fresh = record { history = All-nil EventHeld; checkpoints = All-nil EventsHeld };
+      act = λ x a h q. held_advance x h a q;
+      load = λ x e h. held_adding x h (load_event e) tt;
+    }

@@ -3,6 +3,7 @@
 use Rattle.std.specs.Prelude.{List, ⊤}
 use Rattle.std.specs.List.{All}
 use Rattle.any_filter.specs.Binary32.{AllBinary32, HeldByBinary32}
+use Rattle.heads.specs.Act.{Act, run, run_two, rest, mark, back, drop, count}
 use Rattle.heads.specs.History.{Event, load_event, run_event, rest_event, restored_event}
 
 abbrev pub EventHeld : Event → Type 0
@@ -13,3 +14,13 @@ EventHeld (restored_event f n) = HeldByBinary32 f
 
 abbrev pub EventsHeld : List Event → Type 0
 EventsHeld = All EventHeld
+
+-- and of a call, whose samples go into its event
+abbrev pub ActLent : Act → Type 0
+ActLent (run form us ys) = AllBinary32 us
+ActLent (run_two form us ys zs) = AllBinary32 us
+ActLent rest = ⊤
+ActLent mark = ⊤
+ActLent (back m) = ⊤
+ActLent (drop m) = ⊤
+ActLent count = ⊤

@@ -4,9 +4,11 @@ use Rattle.std.specs.List.{All}
 use Rattle.any_filter.specs.Binary32.{HeldByBinary32}
 use Rattle.any_filter.specs.declared.Filter.{Filter}
 use Rattle.heads.specs.Snapshot.{greatest_count}
-use Rattle.heads.specs.History.{Event, restored_event, HeadHistory}
+use Rattle.sheets.specs.declared.entry.Entry.{Entry}
+use Rattle.heads.specs.Act.{Act}
+use Rattle.heads.specs.History.{Event, load_event, restored_event, HeadHistory, no_history, adding, advance_by}
 use Rattle.heads.specs.Follows.{head_for, SoundHead}
-use Rattle.heads.specs.Binary32.{EventsHeld}
+use Rattle.heads.specs.Binary32.{EventsHeld, ActLent}
 use Rattle.heads.specs.declared.Snapshot.{Snapshot}
 use Rattle.heads.specs.declared.Head.{Head}
 
@@ -55,3 +57,7 @@ pub record HeadsKept : Type 0 where
   pub restored : (x : Head) → KeptHead x → head_for (restored_history x) ≡ x
   pub sound : (x : Head) → KeptHead x → SoundHead (restored_history x)
   pub held : (x : Head) → KeptHead x → HeldHead (restored_history x)
+  -- calls that lend such samples, and loads, lead from such histories to such histories
+  pub fresh : HeldHead no_history
+  pub act : (x : HeadHistory) (a : Act) → HeldHead x → ActLent a → HeldHead (advance_by x a)
+  pub load : (x : HeadHistory) (e : Entry) → HeldHead x → HeldHead (adding x (load_event e))

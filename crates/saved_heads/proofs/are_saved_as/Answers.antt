@@ -14,7 +14,7 @@ use Rattle.saved_heads.proofs.are_saved_as.Goals as goal
 pub returns : goal.returns
 returns c =
     let xs = c.args.heads.now in
-    let zeros = replicate 2282 0 in
+    let zeros : List ℕ = replicate 2282 0 in
     let n = c.len.ensures.value ∙ ap length c.rows_of-rows.ensures in
     c.eq.ensures
     ∙ ap (λ (l : List ℕ). bytes_eq l c.args.bytes.now)
