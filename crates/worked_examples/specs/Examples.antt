@@ -1,6 +1,6 @@
 -- The worked examples of document 01, and those for requests of 02, a row each, about the definitions that the contracts cite.
 -- An output buffer is lent full of `kept`, so that the places that a form leaves alone show.
-use Rattle.std.specs.Prelude.{◌≡◌, ℕ, List, [], ◌∷◌, ◌++◌, length, replicate, Float, None, Some}
+use Rattle.std.specs.Prelude.{◌≡◌, ℕ, List, [], ◌∷◌, ◌++◌, length, drop, replicate, Float, None, Some}
 use Rattle.std.specs.Float.{nan}
 use Rattle.filter_core.specs.Arithmetic.{word, zeroᶠ, halfᶠ, oneᶠ, negᶠ}
 use Rattle.filter_core.specs.Buffer.{Filtered, buffer_after, each, puts, each_due, puts_due}
@@ -31,7 +31,7 @@ use Rattle.runs.specs.declared.form.RunForm.TheVariants.{Plain, Stride}
 use Rattle.heads.specs.Act.{run, rest, mark, back, count, answered, marked, ran, counted}
 use Rattle.heads.specs.Snapshot.{count_refusal}
 use Rattle.rota.specs.Call.{tell, turn, of_tell, of_turn}
-use Rattle.frame.specs.Call.{Call, opening, loading, at, beginning, taking, at_rota, Reply, plain, wrote, acted, of_rota}
+use Rattle.frame.specs.Call.{Call, opening, loading, at, beginning, taking, at_rota, saving, restoring, Reply, plain, wrote, acted, of_rota}
 use Rattle.frame.specs.History.{no_histories, replies_to}
 
 -- ---- the numbers
@@ -175,6 +175,41 @@ one_worker =
 
 abbrev pub grant_of : ℕ → ℕ → Reply
 grant_of h n = of_rota (of_turn (Some (record { head = h; samples = n })))
+
+-- a head's first two words, the same in a record and in its mark's: the pole 0.5 and the last sample 1
+abbrev pub half_and_one : List ℕ
+half_and_one = 0x00 ∷ 0x00 ∷ 0x00 ∷ 0x3f ∷ 0x00 ∷ 0x00 ∷ 0x80 ∷ 0x3f ∷ []
+
+-- a frame of which head 0 has sewn two samples and has a mark behind the first, saved: 13 rows, two of them of head 0
+abbrev pub saved_frame : List ℕ
+saved_frame =
+    (13 ∷ 0 ∷ 0 ∷ 1 ∷ 0 ∷ 1 ∷ 1 ∷ 0 ∷ 2 ∷ 0 ∷ 3 ∷ 0 ∷ 4 ∷ 0 ∷ 5 ∷ 0 ∷ 6 ∷ 0 ∷ 7 ∷ 0 ∷ 8 ∷ 0 ∷ 9 ∷ 0 ∷ 10 ∷ 0 ∷ 11 ∷ 0 ∷ [])
+    ++ half_and_one
+    ++ (0x00 ∷ 0x00 ∷ 0x00 ∷ 0x3f ∷ [])
+    ++ replicate 20 0
+    ++ (2 ∷ 0 ∷ 0 ∷ 0 ∷ [])
+    ++ half_and_one
+    ++ (0x00 ∷ 0x00 ∷ 0x80 ∷ 0x3f ∷ [])
+    ++ replicate 20 0
+    ++ (1 ∷ 0 ∷ 0 ∷ 0 ∷ [])
+    ++ replicate 396 0
+
+-- the frame is saved in the evening, and in the morning restored on a fresh one
+abbrev pub evening : List Call
+evening = opening sheet ∷ loading 0 0 ∷ run_one ∷ at 0 mark ∷ run_one ∷ saving (replicate 495 0xee) ∷ saving (replicate 497 0xee) ∷ []
+
+abbrev pub morning : List Call
+morning =
+    restoring (drop 1 saved_frame)
+    ∷ at 0 count
+    ∷ restoring saved_frame
+    ∷ loading 0 0
+    ∷ run_one
+    ∷ at 0 count
+    ∷ at 0 (back 0)
+    ∷ run_one
+    ∷ at 0 count
+    ∷ []
 
 -- ---- the table
 
@@ -324,4 +359,29 @@ pub record WorkedExamples : Type 0 where
       ∷ grant_of 0 2
       ∷ grant_of 3 44
       ∷ of_rota (of_turn None)
+      ∷ []
+  -- document 02, k: an output one byte too short is declined with 12, and one a byte too long keeps its last byte
+  pub evening_replies :
+      replies_to no_histories evening
+      ≡ plain 0
+      ∷ plain 0
+      ∷ acted (ran 0 (oneᶠ ∷ []))
+      ∷ acted (marked 0 0)
+      ∷ acted (ran 0 (halfᶠ ∷ []))
+      ∷ wrote 12 0 (replicate 495 0xee)
+      ∷ wrote 0 496 (saved_frame ++ 0xee ∷ [])
+      ∷ []
+  -- without its first byte it is no saved frame, and nothing changes; restored, the head goes on from its third sample with no library, and from
+  -- the mark from its second
+  pub morning_replies :
+      replies_to no_histories morning
+      ≡ plain 20
+      ∷ acted (counted 0 0)
+      ∷ plain 0
+      ∷ plain 5
+      ∷ acted (ran 0 (quarterᶠ ∷ []))
+      ∷ acted (counted 0 3)
+      ∷ acted (answered 0)
+      ∷ acted (ran 0 (halfᶠ ∷ []))
+      ∷ acted (counted 0 2)
       ∷ []

@@ -1,5 +1,5 @@
 use mathlib.Core.Path.{refl}
-use lib.Ieee.{of_bits, add, sub, mul, div, neg, lt, le, is_nan}
+use lib.Ieee.{of_bits, to_bits, add, sub, mul, div, neg, lt, le, is_nan}
 use Rattle.svf.specs.Svf.{svf_next, svf_out, svf_mixed}
 use Rattle.naive_svf.specs.NaiveSvf.{naive_low, naive_high, naive_next, naive_out}
 use Rattle.modified_svf.specs.ModifiedSvf.{modified_next, modified_out}
@@ -13,11 +13,13 @@ use Rattle.heads.specs.History.{type_from, since_from, samples_in, snapshot_from
 use Rattle.saves.specs.Save.{zero_bytes}
 use Rattle.rota.specs.Ring.{ring_after}
 use Rattle.rota.specs.History.{account, last_served}
+use Rattle.saved_heads.specs.Row.{row_of, snapshot_in}
+use Rattle.saved_heads.specs.Bytes.{row_at, rows_from, with_row}
 use Rattle.frame.specs.History.{replies_to, reply_to, advance, call_number}
 use Rattle.worked_examples.proofs.worked_examples.Goals as goal
 
 pub returns : goal.returns
-unfolding of_bits add sub mul div neg lt le is_nan first_refusal entry_refusal over table filter_for through first_output replies_to reply_to advance call_number zero_bytes type_from since_from samples_in snapshot_from ring_after account last_served svf_next svf_out svf_mixed naive_low naive_high naive_next naive_out modified_next modified_out crossover_next crossover_out
+unfolding of_bits add sub mul div neg lt le is_nan first_refusal entry_refusal over table filter_for through first_output replies_to reply_to advance call_number zero_bytes type_from since_from samples_in snapshot_from ring_after account last_served to_bits row_of snapshot_in row_at rows_from with_row svf_next svf_out svf_mixed naive_low naive_high naive_next naive_out modified_next modified_out crossover_next crossover_out
 returns c =
     record {
       dc_blocker = refl;
@@ -62,4 +64,6 @@ returns c =
       count_over = refl;
       save_replies = refl;
       rota_replies = refl;
+      evening_replies = refl;
+      morning_replies = refl;
     }
