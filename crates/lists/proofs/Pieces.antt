@@ -1,13 +1,16 @@
--- Pieces of one length, joined. Assumes nothing.
+-- Pieces of a list, and what holds of each of its elements. Assumes nothing.
 use Prim.Native.Nat.{ℕ, zero, suc, ◌+◌, ◌*◌, ◌<◌}
-use mathlib.Core.Path.{◌≡◌, refl, sym, ap, ◌∙◌}
-use mathlib.Core.List.{List, [], ◌∷◌}
+use mathlib.Core.Path.{◌≡◌, refl, sym, ap, subst, ◌∙◌}
+use mathlib.Core.List.{List, [], ◌∷◌, ◌++◌}
+use mathlib.Core.Logic.{⊎_elim}
 use native.Mathlib.Omega.{arith}
 use lib.ListN.{length, get_or, take, drop, length-append, length-take}
-use lib.Seq.{take-add, drop-drop}
+use lib.Seq.{take-add, drop-drop, take-append_seam, drop-append_seam}
 use Rattle.std.proofs.Math.Nat.{mul-zero, mul-suc}
 use Rattle.std.specs.List.{All, flat_map}
-use Rattle.std.proofs.lemmas.List.Elements.{All-head, All-tail, All-take, All-get_or}
+use Rattle.std.proofs.lemmas.Bool.{cases_lt}
+use Rattle.std.proofs.lemmas.List.{get_or_past}
+use Rattle.std.proofs.lemmas.List.Elements.{All-nil, All-head, All-tail, All-append, All-take, All-drop, All-get_or}
 use Rattle.std.proofs.lemmas.List.Concat.{get_or-flat_map}
 use Rattle.lists.specs.Table.{table}
 
@@ -42,3 +45,22 @@ module _ {A : Type 0} (k : ℕ) (piece : A → List ℕ) where
       let n : length (flat_map piece (take i xs)) ≡ k * i = length_pieces (take i xs) (All-take (λ (y : A). length (piece y) ≡ k) i xs ls) ∙ ap (λ (m : ℕ). k * m) t in
       let p : length (piece (get_or xs i e)) ≡ k = All-get_or (λ (y : A). length (piece y) ≡ k) xs i e h ls in
       ap (λ (m : ℕ). get_or (flat_map piece xs) (m + j) d) (sym n) ∙ get_or-flat_map piece xs i j e d h (omega arith)
+
+-- ---- what holds of each element
+
+module _ {A : Type 0} (P : A → Type 0) where
+  -- it holds of the one at a place, whichever stands for what is past the end
+  pub all_get_or : (xs : List A) (i : ℕ) (d : A) → P d → All P xs → P (get_or xs i d)
+  all_get_or xs i d p h = ⊎_elim (λ l. All-get_or P xs i d l h) (λ l. rw (get_or_past xs i d l) p) (cases_lt i (length xs))
+
+  pub all_front : (xs ys : List A) → All P (xs ++ ys) → All P xs
+  all_front xs ys h = subst (All P) (take-append_seam xs ys) (All-take P (length xs) (xs ++ ys) h)
+
+  pub all_back : (xs ys : List A) → All P (xs ++ ys) → All P ys
+  all_back xs ys h = subst (All P) (drop-append_seam xs ys) (All-drop P (length xs) (xs ++ ys) h)
+
+  -- of each of each piece's
+  pub all_joined : {X : Type 0} (piece : X → List A) (xs : List X) → All (λ (x : X). All P (piece x)) xs → All P (flat_map piece xs)
+  all_joined piece [] h = All-nil P
+  all_joined {X} piece (x ∷ xs) h =
+      All-append P (piece x) (flat_map piece xs) (All-head (λ (y : X). All P (piece y)) x xs h) (all_joined piece xs (All-tail (λ (y : X). All P (piece y)) x xs h))

@@ -49,50 +49,6 @@ record_long r e =
 
 -- ---- words and their bytes
 
--- the word that stands at a place
-pub word_at_place : (b : List ℕ) (q w : ℕ) → Small w → ((m : ℕ) → m < 4 → get_or b (q + m) 0 ≡ get_or (le w) m 0) → word_from b q ≡ w
-word_at_place b q w s h =
-    let z : q ≡ q + 0 = omega arith in
-    let h0 : get_or b q 0 ≡ w % 256 = ap (λ (k : ℕ). get_or b k 0) z ∙ h 0 (omega arith) in
-    let h1 : get_or b (q + 1) 0 ≡ w / 256 % 256 = h 1 (omega arith) in
-    let h2 : get_or b (q + 2) 0 ≡ w / 65536 % 256 = h 2 (omega arith) in
-    let h3 : get_or b (q + 3) 0 ≡ w / 16777216 % 256 = h 3 (omega arith) in
-    omega arith
-
-abbrev pub AreBytes : List ℕ → Type 0
-AreBytes b = (i : ℕ) → get_or b i 0 < 256
-
--- place m of a part
-part_at : (b : List ℕ) (n q m : ℕ) → m < n → get_or (take n (drop q b)) m 0 ≡ get_or b (q + m) 0
-part_at b n q m l = get_or-take n (drop q b) m 0 l ∙ get_or-drop q b m 0
-
-part_small : (b : List ℕ) (n q : ℕ) → AreBytes b → AreBytes (take n (drop q b))
-part_small b n q h m = ⊎_elim within past (cases_lt m n)
-  where
-    within : m < n → get_or (take n (drop q b)) m 0 < 256
-    within l = rw (part_at b n q m l) (h (q + m))
-
-    past : n ≤ m → get_or (take n (drop q b)) m 0 < 256
-    past l = let e : get_or (take n (drop q b)) m 0 ≡ 0 = get_or_past (take n (drop q b)) m 0 (omega (arith, length-take n (drop q b))) in omega arith
-
--- the bytes of the word at a place
-pub bytes_at_place : (b : List ℕ) (q : ℕ) → AreBytes b → q + 4 ≤ length b → le (word_from b q) ≡ take 4 (drop q b)
-bytes_at_place b q h l =
-    let z : q + 0 ≡ q = omega arith in
-    let p0 : get_or (take 4 (drop q b)) 0 0 ≡ get_or b q 0 = part_at b 4 q 0 (omega arith) ∙ ap (λ (k : ℕ). get_or b k 0) z in
-    let p1 = part_at b 4 q 1 (omega arith) in
-    let p2 = part_at b 4 q 2 (omega arith) in
-    let p3 = part_at b 4 q 3 (omega arith) in
-    le_bytes_4 (take 4 (drop q b)) (word_from b q) (omega (arith, length-take 4 (drop q b), length-drop q b)) (part_small b 4 q h) (omega arith)
-
-pub word_small : (b : List ℕ) (q : ℕ) → AreBytes b → Small (word_from b q)
-word_small b q h =
-    let h0 = h q in
-    let h1 = h (q + 1) in
-    let h2 = h (q + 2) in
-    let h3 = h (q + 3) in
-    omega arith
-
 -- ---- rows that are written are read back
 
 pub zero_row : Row
@@ -200,7 +156,7 @@ module _ (rs : List Row) (few : length rs ≤ 60) (shaped : All Shaped rs) where
 
 -- ---- bytes that are read are written back
 
-pub shaped_at : (b : List ℕ) → AreBytes b → (i : ℕ) → Shaped (row_at b i)
+pub shaped_at : (b : List ℕ) → Bytes b → (i : ℕ) → Shaped (row_at b i)
 unfolding row_at
 shaped_at b small i =
     let p = record_place b i in
@@ -210,7 +166,7 @@ shaped_at b small i =
       count = word_small b (p + 32) small;
     }
 
-module _ (b : List ℕ) (small : AreBytes b) (long : length b ≡ 2 + 38 * rows_said b) (few : rows_said b ≤ 60) where
+module _ (b : List ℕ) (small : Bytes b) (long : length b ≡ 2 + 38 * rows_said b) (few : rows_said b ≤ 60) where
   abbrev n : ℕ
   n = rows_said b
 
@@ -277,7 +233,7 @@ tag_below r t = All-from_recursion Below (tag_bytes r) (t.head, (t.filter, tt))
 record_below : (r : Row) → All Below (record_bytes r)
 record_below r = All-append Below (flat_map le r.words) (le r.count) (joined_below le r.words (λ i d l. le_below (get_or r.words i d))) (le_below r.count)
 
-pub written_below : (rs : List Row) → All Tagged rs → AreBytes (rows_bytes rs)
+pub written_below : (rs : List Row) → All Tagged rs → Bytes (rows_bytes rs)
 written_below rs t i = ⊎_elim (λ l. All-get_or Below (rows_bytes rs) i 0 l all) (λ l. rw (get_or_past (rows_bytes rs) i 0 l) (omega arith)) (cases_lt i (length (rows_bytes rs)))
   where
     all : All Below (rows_bytes rs)

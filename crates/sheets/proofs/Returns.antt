@@ -4,37 +4,16 @@ use mathlib.Core.Path.{◌≡◌, refl}
 use mathlib.Core.Bool.{Bool, true, false}
 use mathlib.Core.List.{List}
 use native.Mathlib.Omega.{arith}
-use borrow.Author.Tests.{eqb-false, ltb-true, ltb-false}
-use lib.Dec.{eqb, ltb}
+use borrow.Author.Tests.{eqb-false}
+use lib.Dec.{eqb}
 use lib.Ieee.{is_nan}
-use lib.ListN.{get_or, take, drop, length-take, get_or-eq_default}
-use lib.Seq.{get_or-take, get_or-drop}
+use lib.ListN.{drop}
 use Rattle.filter_core.specs.Arithmetic.{word}
-use Rattle.words.specs.Word.{word_from, written_nan, other_nan}
-use Rattle.words.proofs.Words.{comes_back}
+use Rattle.words.specs.Word.{written_nan, other_nan}
+use Rattle.words.proofs.Words.{comes_back, word_small, bytes_take, bytes_drop}
 use Rattle.filter_core.proofs.Rows.{passed}
 use Rattle.sheets.specs.Sheet.{entries_of, setting_at, word_at, entry_in}
-use Rattle.sheets.specs.Rows.{WordWrong, another_nan, WordsWrong, wrong_a, wrong_b, wrong_c, words_used, wrong_words, RowAt, Bytes, WordsReturn}
-
-bytes_drop : (n : ℕ) (s : List ℕ) → Bytes s → Bytes (drop n s)
-bytes_drop n s b i = rw get_or-drop (b (n + i))
-
-bytes_take : (n : ℕ) (s : List ℕ) → Bytes s → Bytes (take n s)
-bytes_take n s b i = go (ltb i n) refl
-  where
-    go : (t : Bool) → ltb i n ≡ t → get_or (take n s) i 0 < 256
-    go true q = rw (get_or-take n s i 0 (ltb-true i n q)) (b i)
-    go false q =
-        let e : get_or (take n s) i 0 ≡ 0 = get_or-eq_default (take n s) 0 (omega (arith, length-take n s, ltb-false i n q)) in
-        omega arith
-
-word_small : (s : List ℕ) (i : ℕ) → Bytes s → word_from s i < 0x1_0000_0000
-word_small s i b =
-    let p = b i in
-    let q = b (i + 1) in
-    let r = b (i + 2) in
-    let t = b (i + 3) in
-    omega arith
+use Rattle.sheets.specs.Rows.{WordWrong, another_nan, WordsWrong, wrong_a, wrong_b, wrong_c, words_used, wrong_words, RowAt, WordsReturn}
 
 no_other_nan : (u k w : ℕ) → (WordWrong u k w → ⊥) → other_nan w ≡ false
 no_other_nan u k w n = go (eqb w written_nan) (is_nan (word w)) refl refl

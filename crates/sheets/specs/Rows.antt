@@ -7,6 +7,7 @@ use Rattle.std.specs.Float.Ieee.{is_nan, to_bits}
 use Rattle.filter_core.specs.Arithmetic.{word}
 use Rattle.filter_core.specs.Rows.{First, Only, FrequencyCase}
 use Rattle.filter_core.specs.declared.FrequencyApproximation.TheVariants.{Exact}
+use Rattle.words.specs.Word.{Bytes}
 use Rattle.sheets.specs.Sheet.{entries_of, Sized, entry_in, word_at, check_of, check_entry_of, lookup_of}
 use Rattle.sheets.specs.declared.entry.Entry.{Entry}
 
@@ -80,8 +81,5 @@ abbrev pub CheckByRows : Type 0
 CheckByRows = (s : List ℕ) → Checked s
 
 -- every word of a sheet comes back when converted to binary32 and back
-abbrev pub Bytes : List ℕ → Type 0
-Bytes s = (i : ℕ) → get_or s i 0 < 256
-
 abbrev pub WordsReturn : Type 0
 WordsReturn = (s : List ℕ) → Bytes s → Sheet s → (e k : ℕ) → e < entries_of s → k < 3 → to_bits binary32 (word (word_at s e k)) ≡ word_at s e k
