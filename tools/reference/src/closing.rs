@@ -90,7 +90,7 @@ fn spelled(bytes: &[u8]) -> Option<Vec<Row>> {
     Some(pairs.map(row).collect())
 }
 
-// The rows of one head after the other: the standing filter, then marks.
+// The rows of one head after the other.
 fn heads(rows: &[Row]) -> impl Iterator<Item = &[Row]> {
     rows.chunk_by(|a, b| a.head == b.head)
 }
@@ -130,7 +130,7 @@ pub const RULES: [Rule; 8] = [
     }),
 ];
 
-/// The rule that comes first: without it there are no rows to ask the others of.
+/// The rule of the bytes. Where it is broken there are no rows, of which the others could be asked.
 pub const LENGTH: &str = "length";
 
 /// The rows of a saved frame, or the rules that its bytes break.

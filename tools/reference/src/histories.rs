@@ -1112,7 +1112,7 @@ fn sheet_of(edition: u8, kinds: &[u8], f: u32) -> Vec<u8> {
 /// The frequency 0.2.
 const FIFTH: u32 = 0x3E4C_CCCD;
 
-/// For each place of these bytes what stands before it, alone and with every byte in the place; at the last, every byte behind all.
+/// Every change of one byte, every cut and every byte behind, those at one place together.
 fn changes(bytes: Vec<u8>) -> impl Iterator<Item = Vec<Vec<u8>>> {
     (0..=bytes.len()).map(move |place| {
         let before = &bytes[..place];
@@ -1194,7 +1194,7 @@ pub fn frame_changes() -> impl Iterator<Item = Vec<u8>> {
     })
 }
 
-/// As many rows of a row's head, by copies of it.
+/// Puts copies of a row before it until its head has so many rows.
 fn fill(rows: &mut Vec<Row>, at: usize, wanted: usize) {
     let row = rows[at].clone();
     let there = rows.iter().filter(|of| of.head == row.head).count();

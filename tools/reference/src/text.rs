@@ -10,7 +10,7 @@ pub const LONGEST_LINE: usize = 65_535;
 const MOST_SAMPLES: usize = 1_024;
 const MOST_BYTES: usize = 4_096;
 const MOST_TOLD: u64 = 65_535;
-/// So few samples below the greatest count a short run is refused.
+/// A count less than so many samples below the greatest is near it: some runs of histories would pass it.
 const NEAR: u32 = 100;
 
 fn number(word: &[u8]) -> Option<u64> {
