@@ -161,10 +161,10 @@ fn differ(batch: &[Vec<u8>], answers: &[Vec<u8>], expected: &[u8]) -> ! {
     exit(1);
 }
 
-/// What is counted where the bytes of a restore break one rule of a saved frame alone, for each rule.
-fn broken_rules() -> impl Iterator<Item = String> {
-    let rules = [LENGTH].into_iter().chain(RULES.map(|(name, _)| name));
-    rules.map(|name| format!("restore against {name}"))
+/// The rules of a saved frame, each with what is counted where a restore breaks it alone.
+fn broken_alone() -> impl Iterator<Item = (&'static str, String)> {
+    let rules = [LENGTH].into_iter().chain(RULES.map(|(rule, _)| rule));
+    rules.map(|rule| (rule, format!("restore against {rule}")))
 }
 
 fn tried_enough(counts: &Counts) -> bool {
@@ -250,7 +250,7 @@ fn tried_enough(counts: &Counts) -> bool {
     ] {
         wanted.push(call.to_string());
     }
-    wanted.extend(broken_rules());
+    wanted.extend(broken_alone().map(|(_, counted)| counted));
     let often = [
         "convert accepted",
         "convert of edition 1 to 1",
@@ -377,7 +377,7 @@ fn summary(counts: &Counts) {
         counts.of("call refused while a head waits"),
     );
     println!(
-        "saved frames: saves {}, rows {}, refused with 12 {}; restores {}, of another frame {}, with four marks at all heads {}, filters {}, with a NaN {}, while a save is unfinished {}, while a head waits {}; runs of a restored filter {}, rests {}, backs {}, runs up to the greatest count {}, refused with 18 {}; restores refused with 20 {}, {}",
+        "saved frames: saves {}, rows {}, refused with 12 {}; restores {}, of another frame {}, with four marks at all heads {}, filters {}, with a NaN {}, while a save is unfinished {}, while a head waits {}; runs of a restored filter {}, rests {}, backs {}, runs up to the greatest count {}, refused with 18 {}; restores refused with 20 {}, by one rule alone: {}",
         counts.of("save accepted"),
         counts.of("rows saved"),
         counts.of("save refused 12"),
@@ -397,8 +397,8 @@ fn summary(counts: &Counts) {
         counts.of("run up to the greatest count"),
         counts.of("refusal 18"),
         counts.of("restore refused 20"),
-        broken_rules()
-            .map(|rule| format!("{rule} alone {}", counts.of(&rule)))
+        broken_alone()
+            .map(|(rule, counted)| format!("{rule} {}", counts.of(&counted)))
             .collect::<Vec<_>>()
             .join(", "),
     );
