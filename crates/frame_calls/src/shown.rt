@@ -3,9 +3,8 @@
 use crate::text::Output;
 use any_filter::FilterType;
 use heads::{Head, Snapshot};
-use std::fmt::{Display, Formatter};
+use std::fmt::{self, Display, Formatter};
 use std::io::Write;
-use std::{fmt, num};
 
 fn name(filter: FilterType) -> &'static str {
     match filter {
@@ -29,8 +28,7 @@ impl Display for Shown<'_> {
         };
         let filter_type = filter.filter_type();
         f.write_str(name(filter_type))?;
-        for x in filter.fields().iter().take(filter_type.field_count()) {
-            let word = num::f32_to_bits_with_nan(*x);
+        for word in filter.words().iter().take(filter_type.field_count()) {
             write!(f, ":{word:08x}")?;
         }
         Ok(())

@@ -1,14 +1,12 @@
 //! The form of a saved frame (02 k): its bytes as rows, and its rules one by one, each by its own words of 02.
 
-use crate::filters::{word_of, Filter, NAN, TYPES};
+use crate::filters::{Filter, NAN, TYPES};
 
 const HEADS: u8 = 12;
 const MOST_MARKS: usize = 4;
 const WORDS: usize = 8;
 const TAG: usize = 2;
 const RECORD: usize = 4 * WORDS + 4;
-/// How many bytes a row has, its tag with its record.
-pub const ROW: usize = TAG + RECORD;
 
 /// A tag with its record.
 #[derive(Clone, PartialEq)]
@@ -29,12 +27,10 @@ impl Row {
             count,
         };
         if let Some(filter) = filter {
-            let (name, fields) = filter.shown();
+            let (name, words) = filter.words();
             let place = TYPES.iter().position(|of| of.0 == name).unwrap();
             row.filter = place as u8 + 1;
-            for (word, x) in row.words.iter_mut().zip(fields) {
-                *word = word_of(x);
-            }
+            row.words[..words.len()].copy_from_slice(&words);
         }
         row
     }
@@ -55,8 +51,7 @@ impl Row {
     /// Its filter, where no rule is broken.
     pub fn filter(&self) -> Option<Filter> {
         let (name, _) = TYPES[usize::from(self.filter).checked_sub(1)?];
-        let fields: Vec<f32> = self.split().0.iter().map(|w| f32::from_bits(*w)).collect();
-        Some(Filter::from_shown(name, &fields))
+        Some(Filter::of_words(name, self.split().0))
     }
 }
 
@@ -74,81 +69,78 @@ pub fn bytes(rows: &[Row]) -> Vec<u8> {
 }
 
 /// As many rows as the first two bytes say, where there are bytes for exactly these.
-pub fn rows(bytes: &[u8]) -> Option<Vec<Row>> {
-    let [low, high, rest @ ..] = bytes else {
-        return None;
-    };
-    let s = usize::from(u16::from_le_bytes([*low, *high]));
-    if rest.len() != ROW * s {
+fn spelled(bytes: &[u8]) -> Option<Vec<Row>> {
+    let (s, rest) = bytes.split_first_chunk()?;
+    let s = usize::from(u16::from_le_bytes(*s));
+    if rest.len() != (TAG + RECORD) * s {
         return None;
     }
     let (tags, records) = rest.split_at(TAG * s);
     let word = |bytes: &[u8]| u32::from_le_bytes(bytes.try_into().unwrap());
     let row = |(tag, record): (&[u8], &[u8])| {
-        let (words, count) = record.split_at(4 * WORDS);
-        let mut row = Row {
+        let mut words = record.chunks(4).map(word);
+        Row {
             head: tag[0],
             filter: tag[1],
-            words: [0; WORDS],
-            count: word(count),
-        };
-        for (w, bytes) in row.words.iter_mut().zip(words.chunks(4)) {
-            *w = word(bytes);
+            words: [(); WORDS].map(|_| words.next().unwrap()),
+            count: words.next().unwrap(),
         }
-        row
     };
-    Some(
-        tags.chunks(TAG)
-            .zip(records.chunks(RECORD))
-            .map(row)
-            .collect(),
-    )
+    let pairs = tags.chunks(TAG).zip(records.chunks(RECORD));
+    Some(pairs.map(row).collect())
 }
 
-/// The rules, by what is counted where bytes break one.
-pub const RULES: [&str; 10] = [
-    "length",
-    "number of rows",
-    "heads in turn",
-    "at most four marks",
-    "filter byte",
-    "no empty mark",
-    "no mark of an empty head",
-    "unused words",
-    "one NaN",
-    "record of an empty head",
+// The rows of one head after the other.
+fn heads(rows: &[Row]) -> impl Iterator<Item = &[Row]> {
+    rows.chunk_by(|a, b| a.head == b.head)
+}
+
+/// A rule by its name, and whether rows keep it.
+type Rule = (&'static str, fn(&[Row]) -> bool);
+
+/// The rules of rows. That there are 12 to 60 follows from the first two.
+pub const RULES: [Rule; 8] = [
+    ("heads in turn", |rows| {
+        heads(rows).map(|of| of[0].head).eq(0..HEADS)
+    }),
+    ("at most four marks", |rows| {
+        heads(rows).all(|of| of.len() <= 1 + MOST_MARKS)
+    }),
+    ("filter byte", |rows| {
+        rows.iter()
+            .all(|row| usize::from(row.filter) <= TYPES.len())
+    }),
+    ("no empty mark", |rows| {
+        heads(rows).all(|of| !of[1..].iter().any(Row::is_empty))
+    }),
+    ("no mark of an empty head", |rows| {
+        heads(rows).all(|of| !of[0].is_empty() || of.len() == 1)
+    }),
+    ("unused words", |rows| {
+        let zero = |row: &Row| row.split().1.iter().all(|w| *w == 0);
+        rows.iter().all(|row| row.is_empty() || zero(row))
+    }),
+    ("one NaN", |rows| {
+        let another = |w: &u32| f32::from_bits(*w).is_nan() && *w != NAN;
+        !rows.iter().any(|row| row.split().0.iter().any(another))
+    }),
+    ("record of an empty head", |rows| {
+        let zero = |row: &Row| row.words == [0; WORDS] && row.count == 0;
+        rows.iter().all(|row| !row.is_empty() || zero(row))
+    }),
 ];
 
-/// The rules that bytes break, none for a saved frame. Where the length is wrong there are no rows of which the others could be asked.
-pub fn broken(bytes: &[u8]) -> Vec<&'static str> {
-    let Some(rows) = rows(bytes) else {
-        return vec![RULES[0]];
-    };
-    // The rows of one head after the other: the standing filter, then marks.
-    let heads: Vec<&[Row]> = rows.chunk_by(|a, b| a.head == b.head).collect();
-    let another_nan = |w: &u32| f32::from_bits(*w).is_nan() && *w != NAN;
-    let kept = [
-        true,
-        (12..=60).contains(&rows.len()),
-        heads.iter().map(|of| of[0].head).eq(0..HEADS),
-        heads.iter().all(|of| of.len() <= 1 + MOST_MARKS),
-        rows.iter()
-            .all(|row| usize::from(row.filter) <= TYPES.len()),
-        heads
-            .iter()
-            .all(|of| of[1..].iter().all(|mark| mark.filter != 0)),
-        heads.iter().all(|of| of[0].filter != 0 || of.len() == 1),
-        rows.iter()
-            .all(|row| row.is_empty() || row.split().1.iter().all(|w| *w == 0)),
-        rows.iter()
-            .all(|row| !row.split().0.iter().any(another_nan)),
-        rows.iter()
-            .all(|row| !row.is_empty() || (row.words == [0; WORDS] && row.count == 0)),
-    ];
-    RULES
-        .into_iter()
-        .zip(kept)
-        .filter(|(_, kept)| !kept)
-        .map(|(rule, _)| rule)
-        .collect()
+/// The rule of the bytes. Where it is broken there are no rows, of which the others could be asked.
+pub const LENGTH: &str = "length";
+
+/// The rows of a saved frame, or the rules that its bytes break.
+pub fn rows(bytes: &[u8]) -> Result<Vec<Row>, Vec<&'static str>> {
+    let rows = spelled(bytes).ok_or(vec![LENGTH])?;
+    let broken = RULES.iter().filter(|(_, kept)| !kept(&rows));
+    let broken: Vec<&str> = broken.map(|(name, _)| *name).collect();
+    if broken.is_empty() {
+        Ok(rows)
+    } else {
+        Err(broken)
+    }
 }

@@ -231,30 +231,34 @@ impl Filter {
         }
     }
 
-    /// The type's name and the retained numbers, in the source's order.
-    pub fn shown(&self) -> (&'static str, Vec<f32>) {
+    /// The type's name and the words of the retained numbers, in the source's order.
+    pub fn words(&self) -> (&'static str, Vec<u32>) {
+        fn all(fields: &[f32]) -> Vec<u32> {
+            fields.iter().map(|x| word_of(*x)).collect()
+        }
         match self {
-            Filter::Dc(f) => ("dc", f.fields().to_vec()),
-            Filter::OnePole(f) => ("onepole", f.fields().to_vec()),
-            Filter::Svf(f) => ("svf", f.fields().to_vec()),
-            Filter::Naive(f) => ("naive", f.fields().to_vec()),
-            Filter::Modified(f) => ("modified", f.fields().to_vec()),
-            Filter::Crossover(f) => ("crossover", f.fields().to_vec()),
+            Filter::Dc(f) => ("dc", all(&f.fields())),
+            Filter::OnePole(f) => ("onepole", all(&f.fields())),
+            Filter::Svf(f) => ("svf", all(&f.fields())),
+            Filter::Naive(f) => ("naive", all(&f.fields())),
+            Filter::Modified(f) => ("modified", all(&f.fields())),
+            Filter::Crossover(f) => ("crossover", all(&f.fields())),
         }
     }
 
-    /// The filter that is shown so: a type's name and as many numbers as it has.
-    pub fn from_shown(name: &str, fields: &[f32]) -> Filter {
-        fn all<const N: usize>(fields: &[f32]) -> [f32; N] {
-            fields.try_into().expect("as many as the type has")
+    /// The filter of the type with this name and these words, as many as it has.
+    pub fn of_words(name: &str, words: &[u32]) -> Filter {
+        fn all<const N: usize>(words: &[u32]) -> [f32; N] {
+            let words: [u32; N] = words.try_into().expect("as many as the type has");
+            words.map(f32::from_bits)
         }
         match name {
-            "dc" => Filter::Dc(DcBlocker::from_fields(all(fields))),
-            "onepole" => Filter::OnePole(OnePole::from_fields(all(fields))),
-            "svf" => Filter::Svf(Svf::from_fields(all(fields))),
-            "naive" => Filter::Naive(NaiveSvf::from_fields(all(fields))),
-            "modified" => Filter::Modified(ModifiedSvf::from_fields(all(fields))),
-            "crossover" => Filter::Crossover(CrossoverSvf::from_fields(all(fields))),
+            "dc" => Filter::Dc(DcBlocker::from_fields(all(words))),
+            "onepole" => Filter::OnePole(OnePole::from_fields(all(words))),
+            "svf" => Filter::Svf(Svf::from_fields(all(words))),
+            "naive" => Filter::Naive(NaiveSvf::from_fields(all(words))),
+            "modified" => Filter::Modified(ModifiedSvf::from_fields(all(words))),
+            "crossover" => Filter::Crossover(CrossoverSvf::from_fields(all(words))),
             _ => unreachable!("type {name}"),
         }
     }

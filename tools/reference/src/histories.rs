@@ -559,8 +559,7 @@ impl Writer {
             bytes = closing::bytes(&self.saved[place]);
             self.change_bytes(&mut bytes);
         }
-        let line = format!("restore {}", hex(&bytes));
-        self.line(&line);
+        self.line(&restoring(&bytes));
         let filled: Vec<u64> = (0..12)
             .filter(|h| self.frame.type_at(*h).is_some())
             .collect();
@@ -1004,6 +1003,11 @@ fn lend(call: &str, places: usize) -> String {
     format!("{call} {}", hex(&vec![0xEE; places]))
 }
 
+/// A line that restores these bytes.
+fn restoring(saved: &[u8]) -> String {
+    format!("restore {}", hex(saved))
+}
+
 /// Sheets of 15 bytes in edition 1, and of 28 in edition 2.
 const SHORT_SHEETS: [&str; 2] = [
     "0100010000003f0000000000000000",
@@ -1056,15 +1060,12 @@ const CLOSINGS: Alphabet = Alphabet {
     start: |_| "open 0100040000803f0000803f0000803e\n".to_string(),
     letters: |_| {
         let filter = |head, name, words: &[u32], count| {
-            let fields: Vec<f32> = words.iter().map(|w| f32::from_bits(*w)).collect();
-            Row::of(head, Some(Filter::from_shown(name, &fields)), count)
+            Row::of(head, Some(Filter::of_words(name, words)), count)
         };
         let naive = |lp| filter(0, "naive", &[0x3F00_0000, 0x3F80_0000, lp, 1], u32::MAX - 2);
         let other = filter(1, "onepole", &[0x3F80_0000, 0x3F00_0000, 0xBF80_0000], 5);
-        let [near, apart] = [vec![naive(0x3F80_0000), naive(0)], vec![other]].map(|rows| {
-            let rows = with_empty(rows);
-            format!("restore {}", hex(&closing::bytes(&rows)))
-        });
+        let [near, apart] = [vec![naive(0x3F80_0000), naive(0)], vec![other]]
+            .map(|rows| restoring(&closing::bytes(&with_empty(rows))));
         vec![
             near,
             apart,
@@ -1078,7 +1079,7 @@ const CLOSINGS: Alphabet = Alphabet {
     },
     end: |_| {
         let empty = closing::bytes(&with_empty(Vec::new()));
-        format!("{}\nrestore {}\n", lend("save", 612), hex(&empty))
+        format!("{}\n{}\n", lend("save", 612), restoring(&empty))
     },
 };
 
@@ -1093,109 +1094,82 @@ fn with_empty(mut rows: Vec<Row>) -> Vec<Row> {
     rows
 }
 
-/// Every change of one byte of a valid sheet of each kind byte, of one with all seven kinds, of those in Exact at -0.497, -0.25 and -0.0, and
-/// of sheets of edition 2: every value at every place, every truncation, and every byte behind. Each goes through check and lookup by both
-/// readers and through open, the entry is loaded and shown, and the sheet is converted to both editions.
+/// A sheet of these kind bytes, whose frequencies are all f.
+fn sheet_of(edition: u8, kinds: &[u8], f: u32) -> Vec<u8> {
+    let mut sheet = vec![kinds.len() as u8, edition];
+    sheet.extend(kinds);
+    for kind in kinds {
+        let words: [u32; 3] = match kind % 16 {
+            1 | 2 => [f, 0, 0],
+            4 => [0x3F80_0000, 0x3F00_0000, 0x3E80_0000],
+            _ => [f, 0x3F00_0000, 0],
+        };
+        words.iter().for_each(|w| sheet.extend(w.to_le_bytes()));
+    }
+    sheet
+}
+
+/// The frequency 0.2.
+const FIFTH: u32 = 0x3E4C_CCCD;
+
+/// Every change of one byte, every cut and every byte behind, those at one place together.
+fn changes(bytes: Vec<u8>) -> impl Iterator<Item = Vec<Vec<u8>>> {
+    (0..=bytes.len()).map(move |place| {
+        let before = &bytes[..place];
+        let behind = bytes.get(place + 1..).unwrap_or_default();
+        let changed = (0..=255).map(|value| [before, &[value], behind].concat());
+        [before.to_vec()].into_iter().chain(changed).collect()
+    })
+}
+
+/// The changes of a valid sheet of each kind byte, of one with all seven kinds, of those in Exact at -0.497, -0.25 and -0.0, and of sheets of
+/// edition 2. Each goes through check and lookup by both readers and through open, the entry is loaded and shown, and the sheet is converted
+/// to both editions.
 pub fn sheet_changes() -> impl Iterator<Item = Vec<u8>> {
-    let valid = |edition: u8, kinds: &[u8], f: u32| {
-        let mut sheet = vec![kinds.len() as u8, edition];
-        sheet.extend(kinds);
-        for kind in kinds {
-            let words: [u32; 3] = match kind % 16 {
-                1 | 2 => [f, 0, 0],
-                4 => [0x3F80_0000, 0x3F00_0000, 0x3E80_0000],
-                _ => [f, 0x3F00_0000, 0],
-            };
-            words.iter().for_each(|w| sheet.extend(w.to_le_bytes()));
-        }
-        sheet
-    };
-    let fifth = 0x3E4C_CCCD;
     let mut sheets: Vec<Vec<u8>> = KIND_BYTES
         .iter()
-        .map(|k| valid(EDITION_1, &[*k], fifth))
+        .map(|k| sheet_of(EDITION_1, &[*k], FIFTH))
         .collect();
-    sheets.push(valid(EDITION_1, &[1, 2, 3, 4, 5, 6, 7], fifth));
+    sheets.push(sheet_of(EDITION_1, &[1, 2, 3, 4, 5, 6, 7], FIFTH));
     for kind in [2, 3, 5] {
-        sheets
-            .extend([0xBEFE_76C9, 0xBE80_0000, 0x8000_0000].map(|f| valid(EDITION_1, &[kind], f)));
+        sheets.extend(
+            [0xBEFE_76C9, 0xBE80_0000, 0x8000_0000].map(|f| sheet_of(EDITION_1, &[kind], f)),
+        );
     }
     for kind in [1, 2].into_iter().chain(EDITION_2_KIND_BYTES) {
-        sheets.push(valid(EDITION_2, &[kind], fifth));
+        sheets.push(sheet_of(EDITION_2, &[kind], FIFTH));
     }
-    sheets.push(valid(
+    sheets.push(sheet_of(
         EDITION_2,
         &[1, 2, 0x42, 3, 0x43, 4, 5, 0x45, 6, 7],
-        fifth,
+        FIFTH,
     ));
     sheets.into_iter().flat_map(|sheet| {
-        let entries = sheet[0];
+        let e = sheet[0] - 1;
         let lent = "ee".repeat(sheet.len() + 1);
-        let mut changed = Vec::new();
-        for place in 0..sheet.len() {
-            for value in 0..=255 {
-                let mut s = sheet.clone();
-                s[place] = value;
-                changed.push(s);
-            }
-        }
-        for n in 0..sheet.len() {
-            changed.push(sheet[..n].to_vec());
-        }
-        for value in 0..=255 {
-            let mut s = sheet.clone();
-            s.push(value);
-            changed.push(s);
-        }
-        changed
-            .chunks(2000)
-            .map(move |chunk| {
-                let mut text = String::new();
-                for s in chunk {
-                    let s = hex(s);
-                    let e = entries - 1;
-                    text.push_str(&format!(
-                        "check {s} {e}\nlookup {s} {e}\ncheck1 {s} {e}\nlookup1 {s} {e}\nopen {s}\nload 0 {e}\nhead 0\n"
-                    ));
-                    text.push_str(&format!("convert 1 {s} {lent}\nconvert 2 {s} {lent}\n"));
-                }
-                text.into_bytes()
-            })
-            .collect::<Vec<_>>()
+        let lines = move |s: &Vec<u8>| {
+            let s = hex(s);
+            format!(
+                "check {s} {e}\nlookup {s} {e}\ncheck1 {s} {e}\nlookup1 {s} {e}\nopen {s}\nload 0 {e}\nhead 0\n\
+                 convert 1 {s} {lent}\nconvert 2 {s} {lent}\n"
+            )
+        };
+        changes(sheet).map(move |changed| changed.iter().map(&lines).collect::<String>().into_bytes())
     })
 }
 
 /// A frame with a filter of each type, among them a NaN, an infinity and a subnormal, with marks, and with empty heads between.
 fn frame_to_change() -> Vec<Row> {
-    let kinds = [1, 2, 4, 5, 6, 7];
-    let mut sheet = vec![kinds.len() as u8, EDITION_1];
-    sheet.extend(kinds);
-    for kind in kinds {
-        let words: [u32; 3] = match kind {
-            1 | 2 => [0x3E4C_CCCD, 0, 0],
-            4 => [0x3F80_0000, 0x3F80_0000, 0x3E80_0000],
-            _ => [0x3E4C_CCCD, 0x3F00_0000, 0],
-        };
-        words.iter().for_each(|w| sheet.extend(w.to_le_bytes()));
-    }
-    let mut text = format!("open {}\n", hex(&sheet));
-    for (entry, head) in [0, 2, 3, 5, 8, 11].into_iter().enumerate() {
-        text.push_str(&format!("load {head} {entry}\n"));
-    }
-    for line in [
-        "run 0 plain:low 00000001bf800000 0000000000000000",
-        "mark 3",
-        "run 3 plain:low 3f8000007f800000 0000000000000000",
-        "mark 3",
-        "run 8 plain:band 3f8000007fc00000 0000000000000000",
-        "mark 8",
-        "rest 8",
-        "run 11 plain:high 3f800000 00000000",
-    ] {
-        text.push_str(line);
-        text.push('\n');
-    }
-    standing(&text)
+    let sheet = sheet_of(EDITION_1, &[1, 2, 4, 5, 6, 7], FIFTH);
+    standing(&format!(
+        "open {}\n\
+         load 0 0\nload 2 1\nload 3 2\nload 5 3\nload 8 4\nload 11 5\n\
+         run 0 plain:low 00000001bf800000 0000000000000000\n\
+         mark 3\nrun 3 plain:low 3f8000007f800000 0000000000000000\nmark 3\n\
+         run 8 plain:band 3f8000007fc00000 0000000000000000\nmark 8\nrest 8\n\
+         run 11 plain:high 3f800000 00000000\n",
+        hex(&sheet)
+    ))
 }
 
 /// What stands after these lines on a fresh frame.
@@ -1205,42 +1179,22 @@ fn standing(text: &str) -> Vec<Row> {
     writer.frame.rows()
 }
 
-/// Every change of one byte of a saved frame, every value at every place, every cut, and every byte behind. Each is restored where the frame
-/// itself stands, or what the change before made of it, and what stands then is saved.
+/// The changes of a saved frame. Each is restored where the frame itself stands, or what the change before made of it, and what stands then
+/// is saved.
 pub fn frame_changes() -> impl Iterator<Item = Vec<u8>> {
     let saved = closing::bytes(&frame_to_change());
-    let mut changed = Vec::new();
-    for place in 0..saved.len() {
-        for value in 0..=255 {
-            let mut s = saved.clone();
-            s[place] = value;
-            changed.push(s);
+    let save = lend("save", saved.len());
+    let first = format!("{}\n", restoring(&saved));
+    changes(saved).map(move |changed| {
+        let mut text = first.clone();
+        for s in changed {
+            text.push_str(&format!("{}\n{save}\n", restoring(&s)));
         }
-    }
-    for n in 0..saved.len() {
-        changed.push(saved[..n].to_vec());
-    }
-    for value in 0..=255 {
-        let mut s = saved.clone();
-        s.push(value);
-        changed.push(s);
-    }
-    let first = format!("restore {}\n", hex(&saved));
-    let last = format!("{}\n", lend("save", saved.len()));
-    changed
-        .chunks(1000)
-        .map(|chunk| {
-            let mut text = first.clone();
-            for s in chunk {
-                text.push_str(&format!("restore {}\n{last}", hex(s)));
-            }
-            text.into_bytes()
-        })
-        .collect::<Vec<_>>()
-        .into_iter()
+        text.into_bytes()
+    })
 }
 
-/// As many rows of a row's head, by copies of it.
+/// Puts copies of a row before it until its head has so many rows.
 fn fill(rows: &mut Vec<Row>, at: usize, wanted: usize) {
     let row = rows[at].clone();
     let there = rows.iter().filter(|of| of.head == row.head).count();
@@ -1441,7 +1395,7 @@ pub fn sample(seed: u64) -> Vec<u8> {
     for places in [length - 1, length, length + 2] {
         text.push_str(&format!("{}\n", lend("save", places)));
     }
-    let restore = |rows: &[Row]| format!("restore {}\n", hex(&closing::bytes(rows)));
+    let restore = |rows: &[Row]| format!("{}\n", restoring(&closing::bytes(rows)));
     text.push_str("load 2 0\ndrop 2 0\nrest 4\nrun 3 plain:low 3f800000 00000000\nbegin\ntake ee\ntell 6 257\n");
     text.push_str(&restore(&saved));
     for h in [2, 3, 4, 10] {
@@ -1485,27 +1439,27 @@ pub fn sample(seed: u64) -> Vec<u8> {
     text.push_str(
         "\n# What is no saved frame.\nrestore -\nrestore 0c\nrestore 0c00\nrestore 0000\n",
     );
-    for rule in 0..9 {
+    let filter = saved.iter().position(|row| row.filter == 3).unwrap();
+    let none = saved.iter().position(Row::is_empty).unwrap();
+    let no_mark = Row::of(saved[filter].head, None, 0);
+    let mark_of_none = Row {
+        head: saved[none].head,
+        ..saved[filter].clone()
+    };
+    let broken: [&dyn Fn(&mut Vec<Row>); 9] = [
+        &|rows| rows.swap(0, filter),
+        &|rows| fill(rows, filter, 6),
+        &|rows| rows[filter].filter = 7,
+        &|rows| rows.insert(filter + 1, no_mark.clone()),
+        &|rows| rows.insert(none + 1, mark_of_none.clone()),
+        &|rows| rows[filter].words[7] = 0x8000_0000,
+        &|rows| rows[filter].words[3] = 0xFFC0_0000,
+        &|rows| rows[none].count = 1,
+        &|rows| rows.push(Row::of(12, None, 0)),
+    ];
+    for change in broken {
         let mut rows = saved.clone();
-        let filter = rows.iter().position(|row| row.filter == 3).unwrap();
-        let none = rows.iter().position(Row::is_empty).unwrap();
-        match rule {
-            0 => rows.swap(0, filter),
-            1 => fill(&mut rows, filter, 6),
-            2 => rows[filter].filter = 7,
-            3 => rows.insert(filter + 1, Row::of(rows[filter].head, None, 0)),
-            4 => rows.insert(
-                none + 1,
-                Row {
-                    head: rows[none].head,
-                    ..rows[filter].clone()
-                },
-            ),
-            5 => rows[filter].words[7] = 0x8000_0000,
-            6 => rows[filter].words[3] = 0xFFC0_0000,
-            7 => rows[none].count = 1,
-            _ => rows.push(Row::of(12, None, 0)),
-        }
+        change(&mut rows);
         text.push_str(&restore(&rows));
     }
     text.push_str("head 2\nhead 3\ncount 3\n");

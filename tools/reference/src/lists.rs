@@ -33,8 +33,9 @@ enum Item {
 struct Node {
     item: Item,
     before: List,
-    // The type that the last load or the restore put in.
+    // The type that the last load or the restore put in, and which of the two it was.
     of: &'static str,
+    restored: bool,
     // The list's count and its filter, which `--replay` does not read.
     count: u64,
     filter: Filter,
@@ -96,15 +97,7 @@ impl List {
 
     // Whether its filter was restored, and no load came after that.
     fn is_restored(&self) -> bool {
-        let mut list = self;
-        while let Some(node) = &list.0 {
-            match &node.item {
-                Item::Restored { .. } => return true,
-                Item::Load { .. } => return false,
-                Item::Run { .. } | Item::Rest => list = &node.before,
-            }
-        }
-        false
+        self.0.as_ref().is_some_and(|node| node.restored)
     }
 
     // The samples of its runs since its last load, and where there is none what it was restored with.
@@ -152,9 +145,14 @@ impl List {
 
     fn with(&self, item: Item, filter: Filter) -> List {
         let of = match &item {
-            Item::Restored { filter, .. } => filter.shown().0,
+            Item::Restored { filter, .. } => filter.words().0,
             Item::Load { kind, .. } => type_of(*kind),
             _ => self.of().expect("a load or a restored filter stands first"),
+        };
+        let restored = match &item {
+            Item::Restored { .. } => true,
+            Item::Load { .. } => false,
+            _ => self.is_restored(),
         };
         let count = match &item {
             Item::Restored { count, .. } => u64::from(*count),
@@ -166,6 +164,7 @@ impl List {
             item,
             before: self.clone(),
             of,
+            restored,
             count,
             filter,
         })))
@@ -455,10 +454,9 @@ impl Frame {
 
     /// Each row of a saved frame opens a list of its own: a head's first row that of the head, each further row a mark's.
     pub fn restore(&mut self, saved: &[u8]) -> u8 {
-        if !closing::broken(saved).is_empty() {
+        let Ok(rows) = closing::rows(saved) else {
             return 20;
-        }
-        let rows = closing::rows(saved).expect("rows, where no rule is broken");
+        };
         for (place, head) in self.heads.iter_mut().enumerate() {
             let mut lists = rows
                 .iter()

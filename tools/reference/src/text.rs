@@ -10,7 +10,7 @@ pub const LONGEST_LINE: usize = 65_535;
 const MOST_SAMPLES: usize = 1_024;
 const MOST_BYTES: usize = 4_096;
 const MOST_TOLD: u64 = 65_535;
-/// So few samples below the greatest count a short run is refused.
+/// A count less than so many samples below the greatest is near it: some runs of histories would pass it.
 const NEAR: u32 = 100;
 
 fn number(word: &[u8]) -> Option<u64> {
@@ -121,11 +121,11 @@ fn put_filter(filter: &Option<Filter>, to: &mut String) {
         to.push_str("empty");
         return;
     };
-    let (name, words) = filter.shown();
+    let (name, words) = filter.words();
     to.push_str(name);
-    for x in words {
+    for word in words {
         to.push(':');
-        put_word(x, to);
+        put_hex(&word.to_be_bytes(), to);
     }
 }
 
@@ -188,41 +188,32 @@ fn after_restore(frame: &mut Frame, name: &str, head: u64, number: u8, counts: &
 
 // Counts what a restore met: the rule that its bytes break, where it is one alone, or what it changed and left.
 fn restored(frame: &Frame, before: &[Row], saved: &[u8], counts: &mut Counts) {
-    if let [rule] = closing::broken(saved)[..] {
-        counts.add(&format!("restore against {rule}"), 1);
-    }
-    let Some(rows) = closing::rows(saved).filter(|_| closing::broken(saved).is_empty()) else {
-        return;
+    let rows = match closing::rows(saved) {
+        Ok(rows) => rows,
+        Err(broken) => {
+            if let [rule] = broken[..] {
+                counts.add(&format!("restore against {rule}"), 1);
+            }
+            return;
+        }
     };
-    let near = |row: &Row| row.count > u32::MAX - NEAR;
-    let of_nan = |row: &&Row| row.words.contains(&NAN);
-    let filters = rows.iter().filter(|row| !row.is_empty()).count();
-    counts.add("filters restored", filters as u64);
-    counts.add(
-        "filters restored with a NaN",
-        rows.iter().filter(of_nan).count() as u64,
-    );
+    let filters = || rows.iter().filter(|row| !row.is_empty());
+    let with_nan = filters().filter(|row| row.words.contains(&NAN)).count();
+    let near = filters().any(|row| row.count > u32::MAX - NEAR);
+    let waits = frame.rota.waiting().next().is_some();
+    counts.add("filters restored", filters().count() as u64);
+    counts.add("filters restored with a NaN", with_nan as u64);
     counts.add_each(&[
         ("restore of another frame", rows != before),
-        ("restore of an empty frame", rows.iter().all(Row::is_empty)),
+        ("restore of an empty frame", filters().next().is_none()),
         ("restore of marks", rows.len() > 12),
         ("restore of four marks at all heads", rows.len() == 60),
-        (
-            "restore of a NaN",
-            rows.iter().any(|row| row.words.contains(&NAN)),
-        ),
-        (
-            "restore of a count near the greatest",
-            rows.iter().any(near),
-        ),
+        ("restore of a count near the greatest", near),
         (
             "restore while a save is unfinished",
             !frame.left().is_empty(),
         ),
-        (
-            "restore while a head waits",
-            frame.rota.waiting().next().is_some(),
-        ),
+        ("restore while a head waits", waits),
     ]);
 }
 
@@ -473,7 +464,7 @@ fn call(frame: &mut Frame, line: &[u8], counts: &mut Counts, to: &mut String) ->
             let answer = frame.save(&mut out);
             judged("save", answer.err().unwrap_or(0), counts);
             if let Ok(length) = answer {
-                let rows = closing::rows(&out[..length]).unwrap_or_default();
+                let rows = frame.rows();
                 counts.add("rows saved", rows.len() as u64);
                 counts.add_each(&[
                     ("save of an empty frame", rows.iter().all(Row::is_empty)),

@@ -3,8 +3,9 @@
 //! `histories sample`.
 //! A history gets a program of its own; the reference gets many, with `# fresh frame` between.
 
-use reference::closing::RULES;
+use reference::closing::{LENGTH, RULES};
 use reference::counts::Counts;
+use reference::filters::TYPES;
 use reference::histories::{self, Alphabet, Writer};
 use reference::text::is_silent;
 use std::fs::{self, File};
@@ -160,14 +161,14 @@ fn differ(batch: &[Vec<u8>], answers: &[Vec<u8>], expected: &[u8]) -> ! {
     exit(1);
 }
 
-/// The rules of a saved frame that can be broken alone: where each head has its rows and four marks at most, their number is right.
-fn broken_alone() -> impl Iterator<Item = &'static str> {
-    RULES.into_iter().filter(|rule| *rule != "number of rows")
+/// The rules of a saved frame, each with what is counted where a restore breaks it alone.
+fn broken_alone() -> impl Iterator<Item = (&'static str, String)> {
+    let rules = [LENGTH].into_iter().chain(RULES.map(|(rule, _)| rule));
+    rules.map(|rule| (rule, format!("restore against {rule}")))
 }
 
 fn tried_enough(counts: &Counts) -> bool {
     let mut wanted: Vec<String> = REFUSALS.map(|n| format!("refusal {n}")).to_vec();
-    let types = ["dc", "onepole", "svf", "naive", "modified", "crossover"];
     let forms = [
         "plain",
         "gain",
@@ -178,7 +179,7 @@ fn tried_enough(counts: &Counts) -> bool {
         "pair",
         "split",
     ];
-    for of in types {
+    for (of, _) in TYPES {
         for call in ["run", "two"] {
             wanted.extend(forms.iter().map(|form| format!("{call} {of} {form}")));
         }
@@ -235,7 +236,7 @@ fn tried_enough(counts: &Counts) -> bool {
         "restore refused 20",
         "restore of an empty frame",
         "restore of four marks at all heads",
-        "restore of a NaN",
+        "filters restored with a NaN",
         "restore of a count near the greatest",
         "restore while a save is unfinished",
         "restore while a head waits",
@@ -249,7 +250,7 @@ fn tried_enough(counts: &Counts) -> bool {
     ] {
         wanted.push(call.to_string());
     }
-    wanted.extend(broken_alone().map(|rule| format!("restore against {rule}")));
+    wanted.extend(broken_alone().map(|(_, counted)| counted));
     let often = [
         "convert accepted",
         "convert of edition 1 to 1",
@@ -376,7 +377,7 @@ fn summary(counts: &Counts) {
         counts.of("call refused while a head waits"),
     );
     println!(
-        "saved frames: saves {}, rows {}, refused with 12 {}; restores {}, of another frame {}, with four marks at all heads {}, filters {}, with a NaN {}, while a save is unfinished {}, while a head waits {}; runs of a restored filter {}, rests {}, backs {}, runs up to the greatest count {}, refused with 18 {}; restores refused with 20 {}, against one rule alone: {}",
+        "saved frames: saves {}, rows {}, refused with 12 {}; restores {}, of another frame {}, with four marks at all heads {}, filters {}, with a NaN {}, while a save is unfinished {}, while a head waits {}; runs of a restored filter {}, rests {}, backs {}, runs up to the greatest count {}, refused with 18 {}; restores refused with 20 {}, by one rule alone: {}",
         counts.of("save accepted"),
         counts.of("rows saved"),
         counts.of("save refused 12"),
@@ -397,7 +398,7 @@ fn summary(counts: &Counts) {
         counts.of("refusal 18"),
         counts.of("restore refused 20"),
         broken_alone()
-            .map(|rule| format!("{rule} {}", counts.of(&format!("restore against {rule}"))))
+            .map(|(rule, counted)| format!("{rule} {}", counts.of(&counted)))
             .collect::<Vec<_>>()
             .join(", "),
     );
