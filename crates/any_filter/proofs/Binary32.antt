@@ -4,7 +4,7 @@ use Rattle.std.specs.List.{AllByRecursion}
 use Rattle.std.proofs.lemmas.List.Elements.{All-append, All-take, All-replicate}
 use Rattle.any_filter.specs.Cases.{rested}
 use Rattle.any_filter.specs.Fields.{fields_of}
-use Rattle.any_filter.specs.Binary32.{IsBinary32, HeldByBinary32}
+use Rattle.any_filter.specs.Binary32.{IsBinary32, Representable}
 use Rattle.any_filter.specs.declared.Filter.{Filter}
 use Rattle.any_filter.proofs.Laws.{clears}
 
@@ -12,5 +12,5 @@ use Rattle.any_filter.proofs.Laws.{clears}
 abbrev pub FieldsHeld : Filter → Type 0
 FieldsHeld f = AllByRecursion IsBinary32 (fields_of f)
 
-pub rested_held : (f : Filter) → HeldByBinary32 f → HeldByBinary32 (rested f)
+pub rested_held : (f : Filter) → Representable f → Representable (rested f)
 rested_held f h = rw (clears f) (search (All-append IsBinary32, All-take IsBinary32, All-replicate IsBinary32, of_bits-fits))

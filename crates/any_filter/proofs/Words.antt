@@ -19,13 +19,13 @@ use Rattle.words.specs.Word.{written_nan, other_nan}
 use Rattle.words.proofs.Words.{comes_back}
 use Rattle.any_filter.specs.Cases.{type_of}
 use Rattle.any_filter.specs.Fields.{field_count, fields_of, filter_from}
-use Rattle.any_filter.specs.Binary32.{IsBinary32, AllBinary32, HeldByBinary32}
-use Rattle.any_filter.specs.Words.{words_of, filter_of_words, WordsOf, WordsReturn}
+use Rattle.any_filter.specs.Binary32.{IsBinary32, AllBinary32, Representable}
+use Rattle.any_filter.specs.Words.{words_of, filter_of_words, WordsOf, FilterWordsReturn}
 use Rattle.any_filter.specs.declared.FilterType.{FilterType}
 use Rattle.any_filter.specs.declared.FilterType.TheVariants as type
 use Rattle.any_filter.specs.declared.Filter.{Filter}
 use Rattle.any_filter.specs.declared.Filter.TheVariants.{DcBlocker, OnePole, Svf, NaiveSvf, ModifiedSvf, CrossoverSvf}
-use Rattle.any_filter.proofs.Laws.{comes_back as filter_back, eight}
+use Rattle.any_filter.proofs.Laws.{comes_back as filter_back, numbered, eight}
 
 -- ---- fields, of a filter that was made from eight numbers
 
@@ -129,7 +129,7 @@ module _ (k : FilterType) (w : List ℕ) where
       ∙ map-append (to_bits binary32) (take n v) (replicate (8 - n) zeroᶠ)
       ∙ rw (zeros_back (8 - n), ← h.unused, ← take-map (to_bits binary32) n v, words_back w h.small h.nan) (take-append-drop n w)
 
-  held : length w ≡ 8 → HeldByBinary32 (filter_of_words k w)
+  held : length w ≡ 8 → Representable (filter_of_words k w)
   held e =
       rw (fields_from k v (long e))
       (All-append IsBinary32 (take (field_count k) v) (replicate (8 - field_count k) zeroᶠ)
@@ -144,7 +144,7 @@ unused (NaiveSvf s) = rw zero_word refl
 unused (ModifiedSvf s) = rw zero_word refl
 unused (CrossoverSvf p) = refl
 
-module _ (f : Filter) (h : HeldByBinary32 f) where
+module _ (f : Filter) (h : Representable f) where
   filter : filter_of_words (type_of f) (words_of f) ≡ f
   filter = ap (filter_from (type_of f)) (floats_back (fields_of f) h) ∙ filter_back f
 
@@ -157,5 +157,5 @@ module _ (f : Filter) (h : HeldByBinary32 f) where
         unused = unused f;
       }
 
-pub words_return : WordsReturn
-words_return = record { filter = filter; words = words; of_filter = of_filter; type = λ k w. type_from k (map word w); held = held }
+pub filter_words_return : FilterWordsReturn
+filter_words_return = record { filter = filter; words = words; number = numbered; of_filter = of_filter; type = λ k w. type_from k (map word w); held = held }

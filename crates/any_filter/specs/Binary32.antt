@@ -12,5 +12,5 @@ IsBinary32 x = T (fits binary32 x)
 abbrev pub AllBinary32 : List Float → Type 0
 AllBinary32 = All IsBinary32
 
-abbrev pub HeldByBinary32 : Filter → Type 0
-HeldByBinary32 f = AllBinary32 (fields_of f)
+abbrev pub Representable : Filter → Type 0
+Representable f = AllBinary32 (fields_of f)

@@ -1,12 +1,12 @@
 -- A filter as eight words of binary32: its fields' bits, every NaN as the one that is written.
-use Rattle.std.specs.Prelude.{ℕ, ◌-◌, ◌<◌, ◌≡◌, false, List, length, drop, map, replicate}
+use Rattle.std.specs.Prelude.{ℕ, ◌-◌, ◌<◌, ◌≡◌, false, List, length, drop, map, replicate, Some}
 use Rattle.std.specs.Float.{binary32}
 use Rattle.std.specs.Float.Ieee.{of_bits, to_bits}
 use Rattle.std.specs.List.{All}
 use Rattle.words.specs.Word.{other_nan}
 use Rattle.any_filter.specs.Cases.{type_of}
-use Rattle.any_filter.specs.Fields.{field_count, fields_of, filter_from}
-use Rattle.any_filter.specs.Binary32.{HeldByBinary32}
+use Rattle.any_filter.specs.Fields.{type_number, type_numbered, field_count, fields_of, filter_from}
+use Rattle.any_filter.specs.Binary32.{Representable}
 use Rattle.any_filter.specs.declared.FilterType.{FilterType}
 use Rattle.any_filter.specs.declared.Filter.{Filter}
 
@@ -25,10 +25,12 @@ pub record WordsOf (k : FilterType) (w : List ℕ) : Type 0 where
   pub nan : All (λ (n : ℕ). other_nan n ≡ false) w
   pub unused : drop (field_count k) w ≡ replicate (8 - field_count k) 0
 
-pub record WordsReturn : Type 0 where
-  pub filter : (f : Filter) → HeldByBinary32 f → filter_of_words (type_of f) (words_of f) ≡ f
+pub record FilterWordsReturn : Type 0 where
+  pub filter : (f : Filter) → Representable f → filter_of_words (type_of f) (words_of f) ≡ f
   pub words : (k : FilterType) (w : List ℕ) → WordsOf k w → words_of (filter_of_words k w) ≡ w
+  -- a type comes back from its number
+  pub number : (k : FilterType) → type_numbered (type_number k) ≡ Some k
   -- a filter's words are such words, and words make a filter of their type that binary32 holds
-  pub of_filter : (f : Filter) → HeldByBinary32 f → WordsOf (type_of f) (words_of f)
+  pub of_filter : (f : Filter) → Representable f → WordsOf (type_of f) (words_of f)
   pub type : (k : FilterType) (w : List ℕ) → type_of (filter_of_words k w) ≡ k
-  pub held : (k : FilterType) (w : List ℕ) → length w ≡ 8 → HeldByBinary32 (filter_of_words k w)
+  pub held : (k : FilterType) (w : List ℕ) → length w ≡ 8 → Representable (filter_of_words k w)

@@ -4,7 +4,7 @@
 ghost use Rattle.std.specs.Prelude.{◌≡◌, ◌≤◌};
 ghost use Rattle.any_filter.specs.Cases.{passes_of, crossover_from, type_of, rested};
 ghost use Rattle.any_filter.specs.Fields.{type_number, type_numbered, field_count, padded, fields_of, filter_from, FieldsReturn};
-ghost use Rattle.any_filter.specs.Words.{words_of, filter_of_words, WordsReturn};
+ghost use Rattle.any_filter.specs.Words.{words_of, filter_of_words, FilterWordsReturn};
 ghost use Rattle.any_filter.specs.Rest.{RestClears};
 
 use crossover_svf::CrossoverSvf;
@@ -215,9 +215,9 @@ pub fn fields_return()
 {}
 
 // A filter comes back from its words, and words from the filter that they make.
-#[tactic(auto, using(crate::proofs::Words::words_return))]
-pub fn words_return()
-    ensures { WordsReturn }
+#[tactic(auto, using(crate::proofs::Words::filter_words_return))]
+pub fn filter_words_return()
+    ensures { FilterWordsReturn }
 {}
 
 // A rest keeps the coefficients and clears all else.

@@ -19,13 +19,13 @@ use Rattle.heads.specs.Snapshot.{loaded_with}
 use Rattle.heads.specs.Head.{empty_head, holding}
 use Rattle.heads.specs.History.{load_event, HeadHistory, act_number, adding, grown_by, advance_by, accepted_act, act_reply}
 use Rattle.heads.specs.Follows.{head_for}
-use Rattle.heads.specs.Kept.{restored_history}
+use Rattle.heads.specs.Valid.{restored_history}
 use Rattle.heads.specs.declared.Head.{Head}
 use Rattle.lists.proofs.Tables.{get_or_table, table_ext, table_is, set_table}
-use Rattle.heads.proofs.Kept.{heads_kept}
+use Rattle.heads.proofs.Valid.{heads_valid}
 use Rattle.saved_heads.specs.Bytes.{heads_in}
 use Rattle.saved_heads.specs.Saved.{save_number, restore_refusal}
-use Rattle.saved_heads.proofs.Heads.{head_kept}
+use Rattle.saved_heads.proofs.Heads.{head_valid}
 use Rattle.saved_heads.proofs.RoundTrip.{heads_return}
 use Rattle.heads.proofs.Follows.{head_follows}
 use Rattle.saves.specs.Save.{with_left, begin_refusal, begin_of, take_refusal}
@@ -186,10 +186,10 @@ follows_save H out = go (eqb (save_number (heads_of H) out) 0) refl
 -- the restored heads are those of the histories that they open
 pub restored_heads : (b : List ℕ) → restore_refusal b ≡ 0 → heads_in b ≡ table 12 (λ h. head_for (restored_history (get_or (heads_in b) h empty_head)))
 restored_heads b q =
-    let k = heads_return.kept b q in
+    let k = heads_return.valid b q in
     let xs = heads_in b in
     let f : ℕ → Head = λ h. head_for (restored_history (get_or xs h empty_head)) in
-    sym (table_is xs f empty_head (λ i l. heads_kept.restored (get_or xs i empty_head) (head_kept xs k.heads i))) ∙ ap (λ (n : ℕ). table n f) k.twelve
+    sym (table_is xs f empty_head (λ i l. heads_valid.restored (get_or xs i empty_head) (head_valid xs k.heads i))) ∙ ap (λ (n : ℕ). table n f) k.twelve
 
 follows_restore : (H : Histories) (b : List ℕ) → Follows H (restoring b)
 unfolding perform reply_to advance call_number

@@ -1,5 +1,5 @@
 -- The numbers of the frame's calls, by their rows. Assumes nothing.
-use Prim.Native.Nat.{ℕ, zero, suc, ◌≤◌, ◌<◌}
+use Prim.Native.Nat.{ℕ, ◌+◌, zero, suc, ◌≤◌, ◌<◌}
 use mathlib.Core.Path.{◌≡◌, refl, subst}
 use mathlib.Core.List.{List, [], ◌∷◌}
 use native.Mathlib.Omega.{arith}
@@ -18,6 +18,8 @@ use Rattle.heads.specs.Rows.{ActCase}
 use Rattle.heads.proofs.Rows.{head_by_rows}
 use Rattle.saves.proofs.Rows.{begin_row, take_row}
 use Rattle.rota.proofs.Rows.{rota_row}
+use Rattle.std.specs.List.{sum}
+use Rattle.std.proofs.lemmas.List.Sums.{sum_by-cons}
 use Rattle.lists.specs.Table.{table}
 use Rattle.heads.specs.History.{snapshot_of}
 use Rattle.heads.specs.Follows.{head_for}
@@ -25,10 +27,10 @@ use Rattle.saved_heads.specs.Row.{row_of}
 use Rattle.saved_heads.specs.Bytes.{head_rows, rows_from}
 use Rattle.saved_heads.specs.Saved.{save_number}
 use Rattle.saved_heads.specs.Rows.{SaveCase}
-use Rattle.saved_heads.proofs.Judged.{saved_heads_by_rows}
+use Rattle.saved_heads.proofs.Rows.{saved_heads_by_rows}
 use Rattle.frame.specs.Call.{Call, opening, writing, loading, at, beginning, taking, at_rota, saving, restoring}
 use Rattle.frame.specs.History.{Histories, no_histories, heads_of, head_first, call_number, advance_all}
-use Rattle.frame.specs.Rows.{AtCase, no_head, of_head, LoadCase, no_entry, row_count, Row, NumbersByRows}
+use Rattle.frame.specs.Rows.{AtCase, no_head, of_head, LoadCase, no_entry, Row, NumbersByRows}
 use Rattle.frame.proofs.Sound.{Sound, sound_all, sound_none}
 
 -- the cases of a call at the head h, from its own
@@ -61,14 +63,15 @@ not_head (drop m) p = elim p [ ]
 not_head count p = elim p [ ]
 
 -- the rows of the heads of some histories
-rows_counted : (n h : ℕ) (g : ℕ → HeadHistory) → length (rows_from h (table n (λ i. head_for (g i)))) ≡ row_count n g
-unfolding rows_from table row_count
+rows_counted : (n h : ℕ) (g : ℕ → HeadHistory) → length (rows_from h (table n (λ i. head_for (g i)))) ≡ sum (table n (λ i. 1 + length (g i).checkpoints))
+unfolding rows_from table
 rows_counted zero h g = refl
 rows_counted (suc n) h g =
     let e = rows_counted n (suc h) (λ i. g (suc i)) in
     let x = head_for (g 0) in
     omega (
       arith,
+      sum_by-cons (λ (k : ℕ). k) (1 + length (g 0).checkpoints) (table n (λ i. 1 + length (g (suc i)).checkpoints)),
       length-append (head_rows h x) (rows_from (suc h) (table n (λ i. head_for (g (suc i))))),
       length-map (x.now ∷ x.marks.items) (row_of h),
       length-map (g 0).checkpoints snapshot_of,

@@ -16,12 +16,12 @@ use Rattle.library.proofs.RoundTrip.{same_entries, no_sheet}
 use Rattle.heads.specs.History.{HeadHistory, act_number}
 use Rattle.heads.specs.Follows.{SoundHead}
 use Rattle.heads.specs.Head.{empty_head}
-use Rattle.heads.specs.Kept.{restored_history}
+use Rattle.heads.specs.Valid.{restored_history}
 use Rattle.heads.proofs.Sound as head
-use Rattle.heads.proofs.Kept.{heads_kept}
+use Rattle.heads.proofs.Valid.{heads_valid}
 use Rattle.saved_heads.specs.Bytes.{heads_in}
 use Rattle.saved_heads.specs.Saved.{restore_refusal}
-use Rattle.saved_heads.proofs.Heads.{head_kept}
+use Rattle.saved_heads.proofs.Heads.{head_valid}
 use Rattle.saved_heads.proofs.RoundTrip.{heads_return}
 use Rattle.frame.specs.Call.{Call, opening, writing, loading, at, beginning, taking, at_rota, saving, restoring}
 use Rattle.frame.specs.History.{Histories, no_histories, head_first, call_number, with_history, grown, advance, advance_all}
@@ -56,7 +56,7 @@ past_head h n q = go (ltb 11 h) q
 
 -- each head of an accepted restore opens a sound history
 pub sound_restored : (b : List ℕ) → restore_refusal b ≡ 0 → (h : ℕ) → SoundHead (restored_history (get_or (heads_in b) h empty_head))
-sound_restored b q h = heads_kept.sound (get_or (heads_in b) h empty_head) (head_kept (heads_in b) (heads_return.kept b q).heads h)
+sound_restored b q h = heads_valid.sound (get_or (heads_in b) h empty_head) (head_valid (heads_in b) (heads_return.valid b q).heads h)
 
 sound_accepted : (H : Histories) (c : Call) → Sound H → call_number H c ≡ 0 → Sound (grown H c)
 unfolding call_number

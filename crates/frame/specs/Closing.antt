@@ -5,22 +5,21 @@ use Rattle.lists.specs.Over.{over}
 use Rattle.sheets.specs.Rows.{Sheet}
 use Rattle.library.specs.Library.{library_of}
 use Rattle.saves.specs.Save.{left_of}
-use Rattle.rota.specs.History.{Event}
 use Rattle.rota.specs.Follows.{rota_for}
-use Rattle.heads.specs.Binary32.{ActLent}
+use Rattle.heads.specs.Binary32.{RepresentableSamples}
 use Rattle.saved_heads.specs.Bytes.{bytes_of, heads_in}
 use Rattle.saved_heads.specs.Saved.{saved_length}
 use Rattle.frame.specs.Call.{Call, at, saving, restoring, plain, wrote, number_in}
 use Rattle.frame.specs.Calls.{with_heads, Done, perform}
-use Rattle.frame.specs.History.{Histories, no_histories, opened_with}
+use Rattle.frame.specs.History.{Histories, no_histories, opened_with, advance_all}
 use Rattle.frame.specs.Demand.{Upheld}
 use Rattle.frame.specs.Saves.{written_bytes, after}
 use Rattle.frame.specs.declared.Frame.{Frame}
 
 -- the samples that a call lends are ones that binary32 holds, as all are that a program can lend
-abbrev pub Lent : Call → Type 0
-Lent (at h a) = ActLent a
-Lent _ = ⊤
+abbrev pub LendsBinary32 : Call → Type 0
+LendsBinary32 (at h a) = RepresentableSamples a
+LendsBinary32 _ = ⊤
 
 -- ---- what is saved of a frame, and restored on another
 
@@ -40,26 +39,32 @@ pub record Returns (f g : Frame) (out : List ℕ) : Type 0 where
 
 -- ---- from a restored frame on
 
--- no library was opened, or one from a sheet
-pub data Opened : List ℕ → Type 0 where
-  nothing : Opened []
-  sheet : {s : List ℕ} → Sheet s → Opened s
+-- a frame goes by these histories in all but its heads: its library is that of a sheet, or none
+pub data OfSheet : List ℕ → Type 0 where
+  nothing : OfSheet []
+  sheet : {s : List ℕ} → Sheet s → OfSheet s
 
--- each head's history is opened by its restored filter, and its checkpoints by those of the marks; the sheet, what is left of the save and
--- the rota's history are those that stand there
-abbrev pub opened : List ℕ → List ℕ → List Event → List ℕ → Histories
-opened s l r b = opened_with (record no_histories { sheet = s; left = l; rota = r }) (heads_in b)
+pub record Beside (f : Frame) (H : Histories) : Type 0 where
+  pub of_sheet : OfSheet H.sheet
+  pub library : f.library ≡ library_of H.sheet
+  pub left : left_of f.save ≡ H.left
+  pub rota : f.rota ≡ rota_for H.rota
 
 -- ---- the statements
 
 pub record Closing : Type 0 where
   -- every frame that calls lead to is saved where there is room, and comes back exactly, whichever frame stands there
-  pub returns : (cs : List Call) → All Lent cs → (g : Frame) (out : List ℕ) → saved_length (after cs).heads ≤ length out → Returns (after cs) g out
+  pub returns : (cs : List Call) → All LendsBinary32 cs → (g : Frame) (out : List ℕ) → saved_length (after cs).heads ≤ length out → Returns (after cs) g out
   -- bytes that are accepted are those that the frame then saves: each frame has one saved form
-  pub again : (f : Frame) (b : List ℕ) → number_in (restore_done f b).reply ≡ 0 → bytes_of (restore_done f b).frame.heads ≡ b
+  pub again : (f : Frame) (b out : List ℕ) → number_in (restore_done f b).reply ≡ 0 → length b ≤ length out
+      → written_bytes (save_done (restore_done f b).frame out).reply ≡ b
   -- a save changes nothing, and a restore the heads alone
   pub saving_leaves : (f : Frame) (out : List ℕ) → (save_done f out).frame ≡ f
   pub heads_alone : (f : Frame) (b : List ℕ) → (restore_done f b).frame ≡ with_heads f (restore_done f b).frame.heads
-  -- every list of calls on a restored frame is upheld, with the library and the rota that stand there, and any save unfinished there
-  pub onward : (f : Frame) (s : List ℕ) (r : List Event) (b : List ℕ) (cs : List Call) → Opened s → f.library ≡ library_of s → f.rota ≡ rota_for r
-      → number_in (restore_done f b).reply ≡ 0 → Upheld (restore_done f b).frame (opened s (left_of f.save) r b) cs
+  -- every list of calls on a restored frame is upheld: each head's history is opened by its restored filter, and its checkpoints by those of
+  -- the marks; the library, the save and the rota are those that stand there
+  pub onward : (f : Frame) (H : Histories) (b : List ℕ) (cs : List Call) → Beside f H → number_in (restore_done f b).reply ≡ 0
+      → Upheld (restore_done f b).frame (opened_with H (heads_in b)) cs
+  -- so it is after any calls on a fresh frame
+  pub after_calls : (ds : List Call) (b : List ℕ) (cs : List Call) → number_in (restore_done (after ds) b).reply ≡ 0
+      → Upheld (restore_done (after ds) b).frame (opened_with (advance_all no_histories ds) (heads_in b)) cs

@@ -10,7 +10,7 @@ use Rattle.saves.specs.Save.{begin_refusal, finished_refusal}
 use Rattle.rota.specs.History as rota
 use Rattle.heads.specs.Head.{empty_head}
 use Rattle.heads.specs.Follows.{head_for}
-use Rattle.heads.specs.Kept.{restored_history}
+use Rattle.heads.specs.Valid.{restored_history}
 use Rattle.heads.specs.declared.Head.{Head}
 use Rattle.saved_heads.specs.Bytes.{bytes_of, heads_in}
 use Rattle.saved_heads.specs.Saved.{save_number, saved_length, restore_refusal}

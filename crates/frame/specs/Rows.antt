@@ -1,6 +1,8 @@
 -- The refusal table of document 01, row by row, for the calls of a frame: the case of each number as a statement about the histories,
 -- the call's arguments and the lengths of its buffers.
-use Rattle.std.specs.Prelude.{ℕ, zero, suc, ◌+◌, ◌≤◌, List, [], ◌∷◌, length}
+use Rattle.std.specs.List.{sum}
+use Rattle.lists.specs.Table.{table}
+use Rattle.std.specs.Prelude.{ℕ, ◌+◌, ◌≤◌, List, [], ◌∷◌, length}
 use Rattle.filter_core.specs.Rows.{Only, Exactly}
 use Rattle.sheets.specs.Sheet.{entries_of}
 use Rattle.sheets.specs.Rows.{SheetRow}
@@ -24,10 +26,9 @@ pub data LoadCase (s : List ℕ) (e : ℕ) : ℕ → Type 0 where
   -- 5: as many entries as the sheet announces, none where there is no sheet
   no_entry : entries_of s ≤ e → LoadCase s e 5
 
--- how many rows the first n heads are saved as: one each, and one for each checkpoint (02 k)
-unfoldable pub row_count : ℕ → (ℕ → HeadHistory) → ℕ
-row_count zero g = 0
-row_count (suc n) g = 1 + length (g 0).checkpoints + row_count n (λ h. g (suc h))
+-- how many rows the twelve heads are saved as: one each, and one for each checkpoint (02 k)
+abbrev pub row_count : (ℕ → HeadHistory) → ℕ
+row_count g = sum (table 12 (λ h. 1 + length (g h).checkpoints))
 
 -- A sheet, a write, a begin, a take, the rota's calls and saved frames have rows of their own, below the frame.
 abbrev pub Row : Histories → Call → ℕ → Type 0
@@ -38,7 +39,7 @@ Row H (at h a) n = Exactly (AtCase h (ActCase (H.heads h) a)) (1 ∷ numbers_of 
 Row H beginning n = Exactly (BeginCase (length H.left) (entries_of H.sheet)) (16 ∷ 2 ∷ []) n
 Row H (taking out) n = Exactly (TakeCase (length H.left)) (17 ∷ []) n
 Row H (at_rota c) n = Exactly (rota.RotaCase H.rota c) (rota.numbers_of c) n
-Row H (saving out) n = Exactly (SaveCase (row_count 12 H.heads) (length out)) (12 ∷ []) n
+Row H (saving out) n = Exactly (SaveCase (row_count H.heads) (length out)) (12 ∷ []) n
 Row H (restoring b) n = Exactly (RestoreCase b) (20 ∷ []) n
 
 -- after any calls on a fresh frame, a call's number is that of its row

@@ -5,4 +5,4 @@ pub mod Refused
 pub mod Rest
 pub mod Follows
 pub mod Binary32
-pub mod Kept
+pub mod Valid

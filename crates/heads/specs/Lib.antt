@@ -7,4 +7,4 @@ pub mod Rows
 pub mod Rest
 pub mod Counts
 pub mod Binary32
-pub mod Kept
+pub mod Valid

@@ -12,7 +12,7 @@ ghost use Rattle.heads.specs.Follows.{HeadFollows};
 ghost use Rattle.heads.specs.Counts.{CountsAreSums};
 ghost use Rattle.heads.specs.Rows.{HeadByRows};
 ghost use Rattle.heads.specs.Rest.{RestIsLoad};
-ghost use Rattle.heads.specs.Kept.{HeadsKept};
+ghost use Rattle.heads.specs.Valid.{HeadsValid};
 
 use any_filter::Filter;
 use arrayvec::ArrayVec;
@@ -167,7 +167,7 @@ pub fn rest_is_load()
 {}
 
 // What every head keeps that calls lead to, and that one that keeps it is the picture of the history that it opens when it is restored.
-#[tactic(auto, using(crate::proofs::Kept::heads_kept))]
-pub fn heads_kept()
-    ensures { HeadsKept }
+#[tactic(auto, using(crate::proofs::Valid::heads_valid))]
+pub fn heads_valid()
+    ensures { HeadsValid }
 {}

@@ -11,7 +11,7 @@ use Rattle.filter_core.specs.declared.FrequencyApproximation.{FrequencyApproxima
 use Rattle.filter_core.specs.declared.FrequencyApproximation.TheVariants.{Exact, Accurate, Fast, Dirty, Series}
 use Rattle.one_pole.specs.Tangent.{tan_of}
 use Rattle.naive_svf.specs.Sine.{naive_frequency}
-use Rattle.any_filter.specs.Binary32.{IsBinary32, HeldByBinary32}
+use Rattle.any_filter.specs.Binary32.{IsBinary32, Representable}
 use Rattle.any_filter.specs.declared.Filter.TheVariants as type
 use Rattle.sheets.specs.Kind.{setter_of}
 use Rattle.sheets.specs.declared.entry.Entry.{Entry}
@@ -48,5 +48,5 @@ held (NaiveSvf m) a b c = either FieldsHeld type.NaiveSvf (frequency_refusal (wo
 held ModifiedSvf a b c = search set
 held CrossoverSvf a b c = search set
 
-pub loaded_held : (e : Entry) → HeldByBinary32 (filter_of e)
+pub loaded_held : (e : Entry) → Representable (filter_of e)
 loaded_held e = All-from_recursion IsBinary32 _ (held (unwrap_or (setter_of e.kind) DcBlocker) e.a e.b e.c)

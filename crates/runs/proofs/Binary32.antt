@@ -11,7 +11,7 @@ use Rattle.svf.specs.Svf.{svf_next}
 use Rattle.naive_svf.specs.NaiveSvf.{naive_next}
 use Rattle.modified_svf.specs.ModifiedSvf.{modified_next, modified_out}
 use Rattle.crossover_svf.specs.CrossoverSvf.{crossover_next}
-use Rattle.any_filter.specs.Binary32.{IsBinary32, AllBinary32, HeldByBinary32}
+use Rattle.any_filter.specs.Binary32.{IsBinary32, AllBinary32, Representable}
 use Rattle.any_filter.specs.declared.Filter.{Filter}
 use Rattle.runs.specs.Run.{through}
 use Rattle.runs.specs.declared.form.RunForm.{RunForm}
@@ -38,5 +38,5 @@ steps =
       crossover = λ mode s x q h. search results;
     }
 
-pub through_held : (f : Filter) (form : RunForm) (us : List Float) → HeldByBinary32 f → AllBinary32 us → HeldByBinary32 (through f form us)
+pub through_held : (f : Filter) (form : RunForm) (us : List Float) → Representable f → AllBinary32 us → Representable (through f form us)
 through_held f form us h us-held = All-from_recursion IsBinary32 _ (through_upholds FieldsHeld IsBinary32 steps f form us us-held (recursion_from_All IsBinary32 _ h))

@@ -1,25 +1,23 @@
 -- Rows and their bytes come back from each other. Assumes nothing.
 use Prim.Native.Nat.{ℕ, suc, ◌+◌, ◌*◌, ◌/◌, ◌%◌, ◌≤◌, ◌<◌}
 use mathlib.Core.Path.{◌≡◌, refl, sym, ap, ◌∙◌}
-use mathlib.Core.List.{List, [], ◌∷◌, ◌++◌}
-use mathlib.Core.Logic.{⊎_elim}
+use mathlib.Core.List.{List, ◌∷◌, ◌++◌}
 use native.Mathlib.Omega.{arith}
-use lib.ListN.{length, get_or, take, drop, length-append, length-take, length-drop, take-append-drop}
+use lib.ListN.{length, get_or, take, drop, length-append, length-drop, take-append-drop}
 use lib.Seq.{take-append_seam, take_all, take-add, drop-cons, drop-drop}
 use Rattle.std.specs.Prelude.{replicate}
 use Rattle.std.specs.Int.{w16, w32, to_le_bytes}
 use Rattle.std.specs.List.{All, flat_map}
 use Rattle.std.proofs.Math.ListN.{get_or-append}
-use Rattle.std.proofs.lemmas.Bool.{cases_lt}
-use Rattle.std.proofs.lemmas.List.{get_or-append-add, get_or-drop, get_or-take, get_or_past}
-use Rattle.std.proofs.lemmas.List.Elements.{All-from_recursion, All-nil, All-head, All-tail, All-append, All-get_or, All-weaker}
-use Rattle.std.proofs.lemmas.Nat.{le_bytes_4}
+use Rattle.std.proofs.lemmas.List.{get_or-append-add}
+use Rattle.std.proofs.lemmas.List.Elements.{All-from_recursion, All-append, All-get_or, All-weaker}
 use Rattle.lists.specs.Table.{table}
 use Rattle.lists.proofs.Tables.{length_table, table_is, all_table}
-use Rattle.lists.specs.Over.{over}
+use Rattle.lists.specs.Over.{room, Puts}
 use Rattle.lists.proofs.Over.{over_all}
-use Rattle.lists.proofs.Pieces.{pieces, length_pieces, get_or_piece}
-use Rattle.words.specs.Word.{word_from}
+use Rattle.lists.proofs.Pieces.{pieces, length_pieces, get_or_piece, all_get_or, all_joined}
+use Rattle.words.specs.Word.{Bytes, word_from}
+use Rattle.words.proofs.Words.{word_small, word_at_place, bytes_at_place}
 use Rattle.saved_heads.specs.Bytes.{tag_bytes, record_bytes, rows_bytes, rows_said, record_place, row_at, rows_in}
 use Rattle.saved_heads.specs.declared.Row.{Row}
 
@@ -47,8 +45,6 @@ record_long r e =
     let f = length_pieces 4 le r.words (four_long r.words) in
     length-append (flat_map le r.words) (le r.count) ∙ omega arith
 
--- ---- words and their bytes
-
 -- ---- rows that are written are read back
 
 pub zero_row : Row
@@ -62,13 +58,15 @@ long_written rs h =
     let e = length-append (flat_map tag_bytes rs) (flat_map record_bytes rs) in
     omega arith
 
--- written where there is room, they are what stands in front
-pub written_front : (rs : List Row) {n : ℕ} (out : List ℕ) {xs : List ℕ} → All (λ (r : Row). length r.words ≡ 8) rs → length rs ≤ 60 → length out ≡ 2282 → n ≡ length rs
-    → xs ≡ over 0 (rows_bytes rs) out → take (2 + 38 * n) xs ≡ rows_bytes rs
-written_front rs {n} out {xs} h few room e w =
+-- put where there is room, they are what stands in front, up to the place behind
+pub written_front : (rs : List Row) (out : List ℕ) {n : ℕ} {xs : List ℕ} → All (λ (r : Row). length r.words ≡ 8) rs → length rs ≤ 60 → length out ≡ 2282
+    → Puts 0 (rows_bytes rs) out n xs → take n xs ≡ rows_bytes rs
+written_front rs out h few long p =
     let l = long_written rs h in
-    let k : 2 + 38 * n ≡ length (rows_bytes rs) = omega arith in
-    rw (w, k, over_all (rows_bytes rs) out (omega arith)) (take-append_seam (rows_bytes rs) (drop (length (rows_bytes rs)) out))
+    let q = p.place in
+    let k = length (rows_bytes rs) in
+    let e : 0 + room 0 (rows_bytes rs) out ≡ k = omega arith in
+    rw (p.list, q, e, over_all (rows_bytes rs) out (omega arith)) (take-append_seam (rows_bytes rs) (drop k out))
 
 module _ (rs : List Row) (few : length rs ≤ 60) (shaped : All Shaped rs) where
   abbrev b : List ℕ
@@ -217,11 +215,6 @@ Below n = n < 256
 le_below : (n : ℕ) → All Below (le n)
 le_below n = All-from_recursion Below (le n) (omega arith, (omega arith, (omega arith, (omega arith, tt))))
 
-joined_below : {A : Type 0} (piece : A → List ℕ) (xs : List A) → All (λ (x : A). All Below (piece x)) xs → All Below (flat_map piece xs)
-joined_below piece [] h = All-nil Below
-joined_below {A} piece (x ∷ xs) h =
-    All-append Below (piece x) (flat_map piece xs) (All-head (λ (x : A). All Below (piece x)) x xs h) (joined_below piece xs (All-tail (λ (x : A). All Below (piece x)) x xs h))
-
 -- a tag's two
 pub record Tagged (r : Row) : Type 0 where
   pub head : r.head < 256
@@ -231,14 +224,14 @@ tag_below : (r : Row) → Tagged r → All Below (tag_bytes r)
 tag_below r t = All-from_recursion Below (tag_bytes r) (t.head, (t.filter, tt))
 
 record_below : (r : Row) → All Below (record_bytes r)
-record_below r = All-append Below (flat_map le r.words) (le r.count) (joined_below le r.words (λ i d l. le_below (get_or r.words i d))) (le_below r.count)
+record_below r = All-append Below (flat_map le r.words) (le r.count) (all_joined Below le r.words (λ i d l. le_below (get_or r.words i d))) (le_below r.count)
 
 pub written_below : (rs : List Row) → All Tagged rs → Bytes (rows_bytes rs)
-written_below rs t i = ⊎_elim (λ l. All-get_or Below (rows_bytes rs) i 0 l all) (λ l. rw (get_or_past (rows_bytes rs) i 0 l) (omega arith)) (cases_lt i (length (rows_bytes rs)))
+written_below rs t i = all_get_or Below (rows_bytes rs) i 0 (omega arith) all
   where
     all : All Below (rows_bytes rs)
     all =
         All-append Below (to_le_bytes w16 (length rs)) (flat_map tag_bytes rs ++ flat_map record_bytes rs) (All-from_recursion Below (to_le_bytes w16 (length rs)) (omega arith, (omega arith, tt)))
         (All-append Below (flat_map tag_bytes rs) (flat_map record_bytes rs)
-        (joined_below tag_bytes rs (All-weaker Tagged (λ (r : Row). All Below (tag_bytes r)) tag_below rs t))
-        (joined_below record_bytes rs (λ i d l. record_below (get_or rs i d))))
+        (all_joined Below tag_bytes rs (All-weaker Tagged (λ (r : Row). All Below (tag_bytes r)) tag_below rs t))
+        (all_joined Below record_bytes rs (λ i d l. record_below (get_or rs i d))))

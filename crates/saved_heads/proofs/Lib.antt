@@ -1,6 +1,6 @@
-pub mod Rows
+pub mod RowsOf
 pub mod Bytes
 pub mod Snapshots
 pub mod Heads
 pub mod RoundTrip
-pub mod Judged
+pub mod Rows

@@ -1,5 +1,5 @@
 -- A saved frame's bytes (02 k): heads as rows, rows as bytes, and back.
-use Rattle.std.specs.Prelude.{ℕ, suc, ◌+◌, ◌*◌, min, cond, List, [], ◌∷◌, ◌++◌, ltb, length, get_or, set, map, replicate, Option, None, Some}
+use Rattle.std.specs.Prelude.{ℕ, suc, ◌+◌, ◌*◌, cond, List, [], ◌∷◌, ◌++◌, ltb, length, get_or, set, take, map, replicate, Option, None, Some}
 use Rattle.std.specs.Int.{w16, w32, to_le_bytes}
 use Rattle.std.specs.List.{flat_map, fold}
 use Rattle.lists.specs.Table.{table}
@@ -53,7 +53,7 @@ bytes_of xs = rows_bytes (rows_from 0 xs)
 
 -- ---- and rows as heads
 
--- a head with one row more: what an empty one holds, and a mark of another. What can be neither is left out
+-- a row taken into its head: as what it holds if it is empty, else as its next mark. A row that fits neither is left out
 
 abbrev pub with_mark : Head → Snapshot → Option Filter → Head
 with_mark x s None = x
@@ -71,4 +71,4 @@ with_row xs r = cond (ltb r.head 12) (set xs r.head (grown_head (get_or xs r.hea
 
 -- twelve heads, of 60 rows at most
 abbrev pub heads_in : List ℕ → List Head
-heads_in b = fold with_row (replicate 12 empty_head) (table (min (rows_said b) 60) (row_at b))
+heads_in b = fold with_row (replicate 12 empty_head) (take 60 (rows_in b))

@@ -1,5 +1,6 @@
 // A saved frame (02 k): twelve heads with their marks as bytes, and the heads that bytes say.
-// Bytes are accepted where the heads that they say are saved as the same bytes, so nothing here checks a rule of the form by itself.
+// Bytes are accepted where the heads that they say are saved as the same bytes. That holds every rule but two, which `grow` keeps: a mark is
+// never empty, and an empty head has none.
 #![tactic(auto)]
 
 ghost use Rattle.std.specs.Prelude.{◌≡◌, ◌+◌, ◌≤◌, ◌++◌, length, replicate, bytes_eq, IfOk};
@@ -75,7 +76,7 @@ fn push_head(rows: &mut ArrayVec<Row, 60>, h: u8, head: &Head)
 }
 
 // The rows of all heads; no head has more than five.
-#[tactic(auto, using(crate::proofs::Rows::rows_none, crate::proofs::Rows::rows_more))]
+#[tactic(auto, using(crate::proofs::RowsOf::rows_none, crate::proofs::RowsOf::rows_more))]
 fn rows_of(heads: &[Head; 12]) -> ArrayVec<Row, 60>
     ensures { result.items ≡ rows_from 0 heads.now }
 {
@@ -126,13 +127,14 @@ fn put_records(rows: &[Row], output: &mut [u8], from: usize) -> usize
     at
 }
 
-fn put_rows(rows: &[Row], output: &mut [u8])
+// The saved form, from the first place on; the place behind it is its length, where there is room.
+fn put_rows(rows: &[Row], output: &mut [u8]) -> usize
     requires { length rows.now ≤ 60 }
-    ensures { output.new ≡ over 0 (rows_bytes rows.now) output.old }
+    ensures { Puts 0 (rows_bytes rows.now) output.old result output.new }
 {
     let tags = lists::put(&(rows.len() as u16).to_le_bytes(), output, 0);
     let records = put_tags(rows, output, tags);
-    put_records(rows, output, records);
+    put_records(rows, output, records)
 }
 
 // Writes the saved form of the heads, and answers its length. Places behind it keep their contents; a refused save leaves every byte.
@@ -175,8 +177,8 @@ fn row_at(bytes: &[u8], said: usize, i: usize) -> Row
     }
 }
 
-// A head with one row more: what an empty one holds, and a mark of another. A row that can be neither is left out, and then these bytes are
-// not what is saved again.
+// Takes a row into its head: as what it holds if it is empty, else as its next mark. A row that fits neither is left out; the bytes are then
+// refused.
 fn grow(head: &mut Head, snapshot: Snapshot)
     ensures { head.new ≡ grown_head head.old snapshot }
 {
@@ -215,14 +217,14 @@ fn heads_in(bytes: &[u8]) -> [Head; 12]
     heads
 }
 
-// Whether the heads are saved as these bytes. 60 rows, and no heads have more, are 2,282 bytes.
+// Whether saving the heads gives these bytes. The longest saved frame has 2,282.
 fn are_saved_as(heads: &[Head; 12], bytes: &[u8]) -> bool
     ensures { result ≡ bytes_eq (bytes_of heads.now) bytes.now }
 {
     let rows = rows_of(heads);
     let mut saved = [0; 2282];
-    put_rows(rows.as_slice(), &mut saved);
-    &saved[..2 + 38 * rows.len()] == bytes
+    let length = put_rows(rows.as_slice(), &mut saved);
+    &saved[..length] == bytes
 }
 
 // The heads of a saved frame. What is none is refused.
@@ -241,7 +243,7 @@ pub fn restore(bytes: &[u8]) -> Result<[Head; 12], Refusal>
 // ---- the theorems
 
 // Each number is answered in its row's case, and in no other: 20 where a rule of a saved frame is broken.
-#[tactic(auto, using(crate::proofs::Judged::saved_heads_by_rows))]
+#[tactic(auto, using(crate::proofs::Rows::saved_heads_by_rows))]
 pub fn saved_heads_by_rows()
     ensures { SavedHeadsByRows }
 {}
