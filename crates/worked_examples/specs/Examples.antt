@@ -1,6 +1,6 @@
 -- The worked examples of document 01, and those for requests of 02, a row each, about the definitions that the contracts cite.
 -- An output buffer is lent full of `kept`, so that the places that a form leaves alone show.
-use Rattle.std.specs.Prelude.{◌≡◌, ℕ, List, [], ◌∷◌, ◌++◌, length, drop, replicate, Float, None, Some}
+use Rattle.std.specs.Prelude.{◌≡◌, ℕ, List, [], ◌∷◌, ◌++◌, length, drop, map, replicate, Float, None, Some}
 use Rattle.std.specs.Float.{nan}
 use Rattle.filter_core.specs.Arithmetic.{word, zeroᶠ, halfᶠ, oneᶠ, negᶠ}
 use Rattle.filter_core.specs.Buffer.{Filtered, buffer_after, each, puts, each_due, puts_due}
@@ -25,11 +25,15 @@ use Rattle.sheets.specs.EditionOne.{check_one, lookup_one}
 use Rattle.sheets.specs.declared.edition.Edition.TheVariants.{One, Two}
 use Rattle.library.specs.Library.{count as entry_count, library_of, bytes_of, entry_at}
 use Rattle.conversion.specs.Conversion.{convert_number, converted_of}
-use Rattle.any_filter.specs.declared.Filter.TheVariants.{DcBlocker as DcBlockerIn, OnePole as OnePoleIn}
+use Rattle.any_filter.specs.Cases.{passes_of}
+use Rattle.any_filter.specs.declared.Filter.{Filter}
+use Rattle.any_filter.specs.declared.Filter.TheVariants.{DcBlocker as DcBlockerIn, OnePole as OnePoleIn, Svf as SvfIn, NaiveSvf as NaiveIn, ModifiedSvf as ModifiedIn, CrossoverSvf as CrossoverIn}
+use Rattle.saved_heads.specs.Row.{filter_byte, row_of}
+use Rattle.saved_heads.specs.Bytes.{record_bytes}
 use Rattle.loads.specs.Load.{filter_of}
 use Rattle.runs.specs.declared.form.RunForm.TheVariants.{Plain, Stride}
 use Rattle.heads.specs.Act.{run, rest, mark, back, count, answered, marked, ran, counted}
-use Rattle.heads.specs.Snapshot.{count_refusal}
+use Rattle.heads.specs.Snapshot.{count_refusal, holds}
 use Rattle.rota.specs.Call.{tell, turn, of_tell, of_turn}
 use Rattle.frame.specs.Call.{Call, opening, loading, at, beginning, taking, at_rota, saving, restoring, Reply, plain, wrote, acted, of_rota}
 use Rattle.frame.specs.History.{no_histories, replies_to}
@@ -176,27 +180,24 @@ one_worker =
 abbrev pub grant_of : ℕ → ℕ → Reply
 grant_of h n = of_rota (of_turn (Some (record { head = h; samples = n })))
 
--- a head's first two words, the same in a record and in its mark's: the pole 0.5 and the last sample 1
-abbrev pub half_and_one : List ℕ
-half_and_one = 0x00 ∷ 0x00 ∷ 0x00 ∷ 0x3f ∷ 0x00 ∷ 0x00 ∷ 0x80 ∷ 0x3f ∷ []
+-- the record of a DC blocker with the pole 0.5 and the last sample 1, by the high half of its last output's word and its count
+abbrev pub record_of_one : ℕ → ℕ → List ℕ
+record_of_one y n =
+    (0x00 ∷ 0x00 ∷ 0x00 ∷ 0x3f ∷ 0x00 ∷ 0x00 ∷ 0x80 ∷ 0x3f ∷ 0x00 ∷ 0x00 ∷ y ∷ 0x3f ∷ []) ++ replicate 20 0 ++ (n ∷ 0 ∷ 0 ∷ 0 ∷ [])
 
--- a frame of which head 0 has sewn two samples and has a mark behind the first, saved: 13 rows, two of them of head 0
+-- a frame of which head 0 has sewn two samples and has a mark behind each, saved: 14 rows, three of them of head 0. Its last output was 0.5, and
+-- at the older mark 1
 abbrev pub saved_frame : List ℕ
 saved_frame =
-    (13 ∷ 0 ∷ 0 ∷ 1 ∷ 0 ∷ 1 ∷ 1 ∷ 0 ∷ 2 ∷ 0 ∷ 3 ∷ 0 ∷ 4 ∷ 0 ∷ 5 ∷ 0 ∷ 6 ∷ 0 ∷ 7 ∷ 0 ∷ 8 ∷ 0 ∷ 9 ∷ 0 ∷ 10 ∷ 0 ∷ 11 ∷ 0 ∷ [])
-    ++ half_and_one
-    ++ (0x00 ∷ 0x00 ∷ 0x00 ∷ 0x3f ∷ [])
-    ++ replicate 20 0
-    ++ (2 ∷ 0 ∷ 0 ∷ 0 ∷ [])
-    ++ half_and_one
-    ++ (0x00 ∷ 0x00 ∷ 0x80 ∷ 0x3f ∷ [])
-    ++ replicate 20 0
-    ++ (1 ∷ 0 ∷ 0 ∷ 0 ∷ [])
+    (14 ∷ 0 ∷ 0 ∷ 1 ∷ 0 ∷ 1 ∷ 0 ∷ 1 ∷ 1 ∷ 0 ∷ 2 ∷ 0 ∷ 3 ∷ 0 ∷ 4 ∷ 0 ∷ 5 ∷ 0 ∷ 6 ∷ 0 ∷ 7 ∷ 0 ∷ 8 ∷ 0 ∷ 9 ∷ 0 ∷ 10 ∷ 0 ∷ 11 ∷ 0 ∷ [])
+    ++ record_of_one 0x00 2
+    ++ record_of_one 0x80 1
+    ++ record_of_one 0x00 2
     ++ replicate 396 0
 
 -- the frame is saved in the evening, and in the morning restored on a fresh one
 abbrev pub evening : List Call
-evening = opening sheet ∷ loading 0 0 ∷ run_one ∷ at 0 mark ∷ run_one ∷ saving (replicate 495 0xee) ∷ saving (replicate 497 0xee) ∷ []
+evening = opening sheet ∷ loading 0 0 ∷ run_one ∷ at 0 mark ∷ run_one ∷ at 0 mark ∷ saving (replicate 533 0xee) ∷ saving (replicate 535 0xee) ∷ []
 
 abbrev pub morning : List Call
 morning =
@@ -360,7 +361,12 @@ pub record WorkedExamples : Type 0 where
       ∷ grant_of 3 44
       ∷ of_rota (of_turn None)
       ∷ []
-  -- document 02, k: an output one byte too short is declined with 12, and one a byte too long keeps its last byte
+  -- document 02, k: the six types by their numbers, and a count with its low byte first
+  pub saved_types :
+      map (λ (f : Filter). filter_byte (Some f)) (DcBlockerIn dc ∷ OnePoleIn one_pole ∷ SvfIn svf ∷ NaiveIn naive ∷ ModifiedIn modified ∷ CrossoverIn (passes_of crossover) ∷ [])
+      ≡ 1 ∷ 2 ∷ 3 ∷ 4 ∷ 5 ∷ 6 ∷ []
+  pub saved_count : drop 32 (record_bytes (row_of 0 (holds (DcBlockerIn dc) 0x0102_0304))) ≡ 4 ∷ 3 ∷ 2 ∷ 1 ∷ []
+  -- an output one byte too short is declined with 12, and one a byte too long keeps its last byte
   pub evening_replies :
       replies_to no_histories evening
       ≡ plain 0
@@ -368,8 +374,9 @@ pub record WorkedExamples : Type 0 where
       ∷ acted (ran 0 (oneᶠ ∷ []))
       ∷ acted (marked 0 0)
       ∷ acted (ran 0 (halfᶠ ∷ []))
-      ∷ wrote 12 0 (replicate 495 0xee)
-      ∷ wrote 0 496 (saved_frame ++ 0xee ∷ [])
+      ∷ acted (marked 0 1)
+      ∷ wrote 12 0 (replicate 533 0xee)
+      ∷ wrote 0 534 (saved_frame ++ 0xee ∷ [])
       ∷ []
   -- without its first byte it is no saved frame, and nothing changes; restored, the head goes on from its third sample with no library, and from
   -- the mark from its second

@@ -64,6 +64,8 @@ returns c =
       count_over = refl;
       save_replies = refl;
       rota_replies = refl;
+      saved_types = refl;
+      saved_count = refl;
       evening_replies = refl;
       morning_replies = refl;
     }
