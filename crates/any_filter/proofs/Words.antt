@@ -127,7 +127,8 @@ module _ (k : FilterType) (w : List ℕ) where
       let n = field_count k in
       ap (map (to_bits binary32)) (fields_from k v (long h.eight))
       ∙ map-append (to_bits binary32) (take n v) (replicate (8 - n) zeroᶠ)
-      ∙ rw (zeros_back (8 - n), ← h.unused, ← take-map (to_bits binary32) n v, words_back w h.small h.nan) (take-append-drop n w)
+      ∙ ap (λ (t : List ℕ). map (to_bits binary32) (take n v) ++ t) (zeros_back (8 - n) ∙ sym h.unused)
+      ∙ rw (← take-map (to_bits binary32) n v, words_back w h.small h.nan) (take-append-drop n w)
 
   held : length w ≡ 8 → Representable (filter_of_words k w)
   held e =
