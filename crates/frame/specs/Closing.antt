@@ -39,11 +39,12 @@ pub record Returns (f g : Frame) (out : List ℕ) : Type 0 where
 
 -- ---- from a restored frame on
 
--- a frame goes by these histories in all but its heads: its library is that of a sheet, or none
+-- a sheet, or none
 pub data OfSheet : List ℕ → Type 0 where
   nothing : OfSheet []
   sheet : {s : List ℕ} → Sheet s → OfSheet s
 
+-- the frame goes by the histories in all but its heads
 pub record Beside (f : Frame) (H : Histories) : Type 0 where
   pub of_sheet : OfSheet H.sheet
   pub library : f.library ≡ library_of H.sheet
