@@ -6,6 +6,7 @@ use mathlib.Core.List.{List}
 use borrow.Author.Tests.{eqb-true}
 use lib.Dec.{eqb, leb, ltb}
 use lib.Seq.{set-get_or}
+use Rattle.filter_core.specs.Refusal.{unless_refused}
 use Rattle.sheets.specs.Sheet.{check_of}
 use Rattle.library.specs.Library.{count as entry_count, write_number}
 use Rattle.heads.specs.Act.{Act, run, run_two, rest, mark, back, drop, count, head_number, refused_act}
@@ -15,7 +16,7 @@ use Rattle.saves.proofs.Parts.{begin_refused, take_refused}
 use Rattle.rota.specs.Call as rota
 use Rattle.rota.proofs.Fairness.{fair}
 use Rattle.saved_heads.specs.Saved.{save_number, restore_refusal}
-use Rattle.frame.specs.Call.{Call, opening, writing, loading, at, beginning, taking, at_rota, saving, restoring, number_in, refused}
+use Rattle.frame.specs.Call.{Call, opening, writing, loading, at, beginning, taking, at_rota, saving, restoring, wrote, number_in, refused}
 use Rattle.frame.specs.Calls.{head_at, Done, refuse, settled, rota_done, perform}
 use Rattle.frame.specs.Refused.{RefusedLeaves}
 use Rattle.frame.specs.declared.Frame.{Frame}
@@ -34,13 +35,14 @@ module _ (f : Frame) (c : Call) where
   either true d u p q = p
   either false d u p q = q
 
-leaves_write : (f : Frame) (out : List ℕ) → Leaves f (writing out) (perform f (writing out))
-unfolding perform
-leaves_write f out = go (eqb (write_number f.library out) 0) refl
+-- a call that answers how much it has written, and by one number whether it has
+leaves_wrote : (f : Frame) (c : Call) (n l : ℕ) (out ys : List ℕ) → ((k : ℕ) → refused k c ≡ wrote k 0 out)
+    → Leaves f c (record { reply = wrote n (unless_refused n 0 l) (unless_refused n out ys); frame = f })
+leaves_wrote f c n l out ys e = go (eqb n 0) refl
   where
-    go : (b : Bool) → eqb (write_number f.library out) 0 ≡ b → Leaves f (writing out) (perform f (writing out))
-    go true q z = absurd (z (eqb-true _ _ q))
-    go false q z = rw q refl
+    go : (b : Bool) → eqb n 0 ≡ b → Leaves f c (record { reply = wrote n (unless_refused n 0 l) (unless_refused n out ys); frame = f })
+    go true q z = absurd (z (eqb-true n 0 q))
+    go false q z = rw (q, e n) refl
 
 leaves_begin : (f : Frame) → Leaves f beginning (perform f beginning)
 unfolding perform
@@ -53,14 +55,6 @@ leaves_take f out z = let t = take_refused f.save out z in rw (t.save, t.output,
 leaves_rota : (f : Frame) (c : rota.Call) → Leaves f (at_rota c) (perform f (at_rota c))
 unfolding perform
 leaves_rota f c z = ap (rota_done f) (fair.refused f.rota c z)
-
-leaves_saved : (f : Frame) (out : List ℕ) → Leaves f (saving out) (perform f (saving out))
-unfolding perform
-leaves_saved f out = go (eqb (save_number f.heads out) 0) refl
-  where
-    go : (b : Bool) → eqb (save_number f.heads out) 0 ≡ b → Leaves f (saving out) (perform f (saving out))
-    go true q z = absurd (z (eqb-true _ _ q))
-    go false q z = rw q refl
 
 refused_number : (a : Act) → head_number (refused_act 1 a) ≡ 1
 refused_number (run form us ys) = refl
@@ -78,7 +72,7 @@ put_back f h a z = ap (settled f h) (head.refused_leaves (head_at f h) a z) ∙ 
 pub refused_leaves : RefusedLeaves
 unfolding perform
 refused_leaves f (opening s) = either f (opening s) (eqb (check_of s) 0) _ _ (accepting f (opening s) _ refl) (refusing f (opening s) (check_of s) refl)
-refused_leaves f (writing out) = leaves_write f out
+refused_leaves f (writing out) = leaves_wrote f (writing out) (write_number f.library out) _ out _ (λ k. refl)
 refused_leaves f (loading h e) =
     either f (loading h e) (ltb 11 h) _ _ (refusing f (loading h e) 1 refl)
     (either f (loading h e) (leb (entry_count f.library) e) _ _ (refusing f (loading h e) 5 refl) (accepting f (loading h e) _ refl))
@@ -86,6 +80,6 @@ refused_leaves f (at h a) = either f (at h a) (ltb 11 h) _ _ (refusing f (at h a
 refused_leaves f beginning = leaves_begin f
 refused_leaves f (taking out) = leaves_take f out
 refused_leaves f (at_rota c) = leaves_rota f c
-refused_leaves f (saving out) = leaves_saved f out
+refused_leaves f (saving out) = leaves_wrote f (saving out) (save_number f.heads out) _ out _ (λ k. refl)
 refused_leaves f (restoring b) =
     either f (restoring b) (eqb (restore_refusal b) 0) _ _ (accepting f (restoring b) _ refl) (refusing f (restoring b) (restore_refusal b) refl)
