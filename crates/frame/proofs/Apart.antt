@@ -12,7 +12,7 @@ use Rattle.rota.specs.Call as rota
 use Rattle.rota.specs.History.{Event}
 use Rattle.rota.specs.declared.Rota.{Rota}
 use Rattle.saved_heads.specs.Saved.{restore_refusal}
-use Rattle.frame.specs.Call.{Call, opening, writing, loading, at, beginning, taking, at_rota, saving, restoring}
+use Rattle.frame.specs.Call.{Call, opening, writing, loading, at, beginning, taking, at_rota, saving_heads, restoring_heads}
 use Rattle.frame.specs.Calls.{with_save, with_rota, Done, perform}
 use Rattle.frame.specs.History.{Histories, call_number, grown, advance}
 use Rattle.frame.specs.Saves.{is_begin_or_take}
@@ -28,8 +28,8 @@ is_of_neither (at h a) = true
 is_of_neither beginning = false
 is_of_neither (taking out) = false
 is_of_neither (at_rota c) = false
-is_of_neither (saving out) = true
-is_of_neither (restoring b) = true
+is_of_neither (saving_heads out) = true
+is_of_neither (restoring_heads b) = true
 
 -- a call is of the save, of the rota, or of neither
 pub data Sort : Call → Type 0 where
@@ -46,8 +46,8 @@ sort_of (at h a) = neither refl refl refl
 sort_of beginning = begins
 sort_of (taking out) = takes out
 sort_of (at_rota c) = feeds c
-sort_of (saving out) = neither refl refl refl
-sort_of (restoring b) = neither refl refl refl
+sort_of (saving_heads out) = neither refl refl refl
+sort_of (restoring_heads b) = neither refl refl refl
 
 -- ---- of frames
 
@@ -71,8 +71,8 @@ module _ (f : Frame) where
   apart v r beginning q = absurd (clash q)
   apart v r (taking out) q = absurd (clash q)
   apart v r (at_rota c) q = absurd (clash q)
-  apart v r (saving out) q = refl
-  apart v r (restoring b) q = either v r (eqb (restore_refusal b) 0) _ _ _ _ refl refl
+  apart v r (saving_heads out) q = refl
+  apart v r (restoring_heads b) q = either v r (eqb (restore_refusal b) 0) _ _ _ _ refl refl
 
   -- so they leave both
   left_alone : (c : Call) → is_of_neither c ≡ true → perform f c ≡ done_with f.save f.rota (perform f c)
@@ -101,8 +101,8 @@ module _ (H : Histories) where
   apart_in l es beginning q = absurd (clash q)
   apart_in l es (taking out) q = absurd (clash q)
   apart_in l es (at_rota c) q = absurd (clash q)
-  apart_in l es (saving out) q = cond_out (λ G. both_in G l es) (eqb (call_number H (saving out)) 0) (grown H (saving out)) H
-  apart_in l es (restoring b) q = cond_out (λ G. both_in G l es) (eqb (call_number H (restoring b)) 0) (grown H (restoring b)) H
+  apart_in l es (saving_heads out) q = cond_out (λ G. both_in G l es) (eqb (call_number H (saving_heads out)) 0) (grown H (saving_heads out)) H
+  apart_in l es (restoring_heads b) q = cond_out (λ G. both_in G l es) (eqb (call_number H (restoring_heads b)) 0) (grown H (restoring_heads b)) H
 
   alone_in : (c : Call) → is_of_neither c ≡ true → advance H c ≡ both_in (advance H c) H.left H.rota
   alone_in c q = apart_in H.left H.rota c q

@@ -28,9 +28,9 @@ use Rattle.saved_heads.specs.Saved.{saved_length, restore_refusal}
 use Rattle.saved_heads.specs.RoundTrip.{ValidHeads}
 use Rattle.saved_heads.proofs.Heads.{head_valid, rows_many, rows_few}
 use Rattle.saved_heads.proofs.RoundTrip.{heads_return}
-use Rattle.frame.specs.Call.{Call, opening, writing, loading, at, beginning, taking, at_rota, saving, restoring, plain, wrote, number_in}
+use Rattle.frame.specs.Call.{Call, opening, writing, loading, at, beginning, taking, at_rota, saving_heads, restoring_heads, plain, wrote, number_in}
 use Rattle.frame.specs.Calls.{with_heads, Done, refuse, perform}
-use Rattle.frame.specs.History.{Histories, no_histories, heads_of, call_number, with_history, opened_with, grown, advance, advance_all}
+use Rattle.frame.specs.History.{Histories, no_histories, heads_of, call_number, with_history, with_restored, grown, advance, advance_all}
 use Rattle.frame.specs.Demand.{Upheld}
 use Rattle.frame.specs.Saves.{written_bytes, after}
 use Rattle.frame.specs.Closing.{LendsBinary32, save_done, restore_done, Returns, OfSheet, nothing, sheet, Closing}
@@ -59,8 +59,8 @@ held_grown H (at h a) p q z = held_at H h (grown_by (H.heads h) a) p (heads_vali
 held_grown H beginning p q z = p
 held_grown H (taking out) p q z = p
 held_grown H (at_rota c) p q z = p
-held_grown H (saving out) p q z = p
-held_grown H (restoring b) p q z = λ h. heads_valid.representable (get_or (heads_in b) h empty_head) (head_valid (heads_in b) (heads_return.valid b z).heads h)
+held_grown H (saving_heads out) p q z = p
+held_grown H (restoring_heads b) p q z = λ h. heads_valid.representable (get_or (heads_in b) h empty_head) (head_valid (heads_in b) (heads_return.valid b z).heads h)
 
 held_advance : (H : Histories) (c : Call) → Held H → LendsBinary32 c → Held (advance H c)
 unfolding advance
@@ -115,7 +115,7 @@ abbrev taken : Frame → List ℕ → Done
 taken f b = record { reply = plain 0; frame = with_heads f (heads_in b) }
 
 abbrev declined : Frame → List ℕ → Done
-declined f b = refuse f (restoring b) (restore_refusal b)
+declined f b = refuse f (restoring_heads b) (restore_refusal b)
 
 restore_accepted : (f : Frame) (b : List ℕ) → number_in (restore_done f b).reply ≡ 0 → restore_refusal b ≡ 0
 unfolding perform
@@ -148,10 +148,10 @@ frame_is p q r s = cc
 
 -- from the histories that the restored heads open, where the others are sound
 onward_from : (f : Frame) (H : Histories) (b : List ℕ) (cs : List Call) → SoundSheet H.sheet → f.library ≡ library_of H.sheet → left_of f.save ≡ H.left → f.rota ≡ rota_for H.rota
-    → number_in (restore_done f b).reply ≡ 0 → Upheld (restore_done f b).frame (opened_with H (heads_in b)) cs
+    → number_in (restore_done f b).reply ≡ 0 → Upheld (restore_done f b).frame (with_restored H (heads_in b)) cs
 onward_from f H b cs o l v t z =
     let a = restore_accepted f b z in
-    let G = opened_with H (heads_in b) in
+    let G = with_restored H (heads_in b) in
     let e : (restore_done f b).frame ≡ frame_for G = restored_frame f b a ∙ frame_is (restored_heads b a) l (ap with_left v) t in
     subst (λ (g : Frame). Upheld g G cs) (sym e) (upheld G cs (record { sheet = o; each = sound_restored b a }))
 
@@ -161,7 +161,7 @@ after_valid cs q =
     (heads_valid_by (advance_all no_histories cs) (sound_all no_histories cs sound_none) (held_all no_histories cs (λ h. heads_valid.fresh) q))
 
 onward_after : (ds : List Call) (b : List ℕ) (cs : List Call) → number_in (restore_done (after ds) b).reply ≡ 0
-    → Upheld (restore_done (after ds) b).frame (opened_with (advance_all no_histories ds) (heads_in b)) cs
+    → Upheld (restore_done (after ds) b).frame (with_restored (advance_all no_histories ds) (heads_in b)) cs
 onward_after ds b cs z =
     let H = advance_all no_histories ds in
     let e = after_calls ds in

@@ -18,7 +18,7 @@ use Rattle.rota.proofs.Follows.{rota_follows}
 use Rattle.rota.proofs.Sound.{sound_none, sound_all}
 use Rattle.rota.proofs.Fairness.{fair, fair_to}
 use Rattle.saved_heads.specs.Saved.{restore_refusal}
-use Rattle.frame.specs.Call.{Call, opening, writing, loading, at, beginning, taking, at_rota, saving, restoring, Reply, of_rota}
+use Rattle.frame.specs.Call.{Call, opening, writing, loading, at, beginning, taking, at_rota, saving_heads, restoring_heads, Reply, of_rota}
 use Rattle.frame.specs.Calls.{fresh_frame, with_rota, Done, perform}
 use Rattle.frame.specs.History.{Histories, no_histories, call_number, grown, advance, advance_all}
 use Rattle.frame.specs.Demand.{replies_from, frame_after}
@@ -117,8 +117,8 @@ kind_of f (at h a) = other refl refl (either (ltb 11 h) _ _ refl refl)
 kind_of f beginning = other refl refl refl
 kind_of f (taking out) = other refl refl refl
 kind_of f (at_rota c) = own c
-kind_of f (saving out) = other refl refl refl
-kind_of f (restoring b) = other refl refl (either (eqb (restore_refusal b) 0) _ _ refl refl)
+kind_of f (saving_heads out) = other refl refl refl
+kind_of f (restoring_heads b) = other refl refl (either (eqb (restore_refusal b) 0) _ _ refl refl)
 
 module _ (f : Frame) (cs : List Call) where
   rota_first : (c : Call) → Kind f c → (frame_after (perform f c).frame cs).rota ≡ rota_from (perform f c).frame.rota (rota_calls cs)

@@ -36,7 +36,7 @@ use Rattle.rota.specs.Call as rota
 use Rattle.rota.specs.History.{call_number as rota_number}
 use Rattle.rota.specs.Follows.{rota_for}
 use Rattle.rota.proofs.Follows.{rota_follows}
-use Rattle.frame.specs.Call.{Call, opening, writing, loading, at, beginning, taking, at_rota, saving, restoring, plain, acted, of_rota}
+use Rattle.frame.specs.Call.{Call, opening, writing, loading, at, beginning, taking, at_rota, saving_heads, restoring_heads, plain, acted, of_rota}
 use Rattle.frame.specs.Calls.{with_head, with_heads, settled, perform}
 use Rattle.frame.specs.History.{Histories, heads_of, call_number, with_history, advance, reply_to}
 use Rattle.frame.proofs.Sound.{Sound}
@@ -175,11 +175,11 @@ follows_rota H c = go (eqb (rota_number H.rota c) 0) refl
         let t = rota_follows.refused H.rota c (eqb-false _ _ q) in
         rw (q, rota_follows.call H.rota c, t.1) (ap (λ r. record { reply = of_rota r; frame = frame_for H }) t.0)
 
-follows_save : (H : Histories) (out : List ℕ) → Follows H (saving out)
+follows_save : (H : Histories) (out : List ℕ) → Follows H (saving_heads out)
 unfolding perform reply_to advance call_number
 follows_save H out = go (eqb (save_number (heads_of H) out) 0) refl
   where
-    go : (b : Bool) → eqb (save_number (heads_of H) out) 0 ≡ b → Follows H (saving out)
+    go : (b : Bool) → eqb (save_number (heads_of H) out) 0 ≡ b → Follows H (saving_heads out)
     go true q = rw (q, eqb-true (save_number (heads_of H) out) 0 q)
     go false q = rw q
 
@@ -191,11 +191,11 @@ restored_heads b q =
     let f : ℕ → Head = λ h. head_for (restored_history (get_or xs h empty_head)) in
     sym (table_is xs f empty_head (λ i l. heads_valid.restored (get_or xs i empty_head) (head_valid xs k.heads i))) ∙ ap (λ (n : ℕ). table n f) k.twelve
 
-follows_restore : (H : Histories) (b : List ℕ) → Follows H (restoring b)
+follows_restore : (H : Histories) (b : List ℕ) → Follows H (restoring_heads b)
 unfolding perform reply_to advance call_number
 follows_restore H b = go (eqb (restore_refusal b) 0) refl
   where
-    go : (t : Bool) → eqb (restore_refusal b) 0 ≡ t → Follows H (restoring b)
+    go : (t : Bool) → eqb (restore_refusal b) 0 ≡ t → Follows H (restoring_heads b)
     go true q = rw q (ap (λ (xs : List Head). record { reply = plain 0; frame = with_heads (frame_for H) xs }) (restored_heads b (eqb-true (restore_refusal b) 0 q)))
     go false q = rw q
 
@@ -207,5 +207,5 @@ follows H (at h a) S = follows_at H h a S
 follows H beginning S = follows_begin H S
 follows H (taking out) S = follows_take H out
 follows H (at_rota c) S = follows_rota H c
-follows H (saving out) S = follows_save H out
-follows H (restoring b) S = follows_restore H b
+follows H (saving_heads out) S = follows_save H out
+follows H (restoring_heads b) S = follows_restore H b

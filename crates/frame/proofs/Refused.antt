@@ -16,7 +16,7 @@ use Rattle.saves.proofs.Parts.{begin_refused, take_refused}
 use Rattle.rota.specs.Call as rota
 use Rattle.rota.proofs.Fairness.{fair}
 use Rattle.saved_heads.specs.Saved.{save_number, restore_refusal}
-use Rattle.frame.specs.Call.{Call, opening, writing, loading, at, beginning, taking, at_rota, saving, restoring, wrote, number_in, refused}
+use Rattle.frame.specs.Call.{Call, opening, writing, loading, at, beginning, taking, at_rota, saving_heads, restoring_heads, wrote, number_in, refused}
 use Rattle.frame.specs.Calls.{head_at, Done, refuse, settled, rota_done, perform}
 use Rattle.frame.specs.Refused.{RefusedLeaves}
 use Rattle.frame.specs.declared.Frame.{Frame}
@@ -80,6 +80,6 @@ refused_leaves f (at h a) = either f (at h a) (ltb 11 h) _ _ (refusing f (at h a
 refused_leaves f beginning = leaves_begin f
 refused_leaves f (taking out) = leaves_take f out
 refused_leaves f (at_rota c) = leaves_rota f c
-refused_leaves f (saving out) = leaves_wrote f (saving out) (save_number f.heads out) _ out _ (λ k. refl)
-refused_leaves f (restoring b) =
-    either f (restoring b) (eqb (restore_refusal b) 0) _ _ (accepting f (restoring b) _ refl) (refusing f (restoring b) (restore_refusal b) refl)
+refused_leaves f (saving_heads out) = leaves_wrote f (saving_heads out) (save_number f.heads out) _ out _ (λ k. refl)
+refused_leaves f (restoring_heads b) =
+    either f (restoring_heads b) (eqb (restore_refusal b) 0) _ _ (accepting f (restoring_heads b) _ refl) (refusing f (restoring_heads b) (restore_refusal b) refl)

@@ -28,7 +28,7 @@ use Rattle.saved_heads.specs.Bytes.{head_rows, rows_from}
 use Rattle.saved_heads.specs.Saved.{save_number}
 use Rattle.saved_heads.specs.Rows.{SaveCase}
 use Rattle.saved_heads.proofs.Rows.{saved_heads_by_rows}
-use Rattle.frame.specs.Call.{Call, opening, writing, loading, at, beginning, taking, at_rota, saving, restoring}
+use Rattle.frame.specs.Call.{Call, opening, writing, loading, at, beginning, taking, at_rota, saving_heads, restoring_heads}
 use Rattle.frame.specs.History.{Histories, no_histories, heads_of, head_first, call_number, advance_all}
 use Rattle.frame.specs.Rows.{AtCase, no_head, of_head, LoadCase, no_entry, Row, NumbersByRows}
 use Rattle.frame.proofs.Sound.{Sound, sound_all, sound_none}
@@ -89,10 +89,10 @@ row H (at h a) S = exactly (by_head (not_head a) (head_by_rows (H.heads h) a (S.
 row H beginning S = exactly (begin_row (length H.left) (library_of H.sheet) (entries_of H.sheet) S.sheet.held)
 row H (taking out) S = exactly (take_row (length H.left))
 row H (at_rota c) S = rota_row H.rota c
-row H (saving out) S =
+row H (saving_heads out) S =
     subst (λ (n : ℕ). Exactly (SaveCase n (length out)) (12 ∷ []) (save_number (heads_of H) out)) (rows_counted 12 0 H.heads)
     (saved_heads_by_rows.saves (heads_of H) out)
-row H (restoring b) S = saved_heads_by_rows.restores b
+row H (restoring_heads b) S = saved_heads_by_rows.restores b
 
 pub numbers_by_rows : NumbersByRows
 unfolding NumbersByRows

@@ -18,7 +18,7 @@ use Rattle.saves.specs.declared.Save.{Save}
 use Rattle.saves.specs.Save.{zero_bytes, left_of}
 use Rattle.saves.proofs.Rows.{unfinished_step, finished_step}
 use Rattle.saves.proofs.Parts.{parts, begin_refused, none_left}
-use Rattle.frame.specs.Call.{Call, opening, writing, loading, at, beginning, taking, at_rota, saving, restoring, number_in, wrote}
+use Rattle.frame.specs.Call.{Call, opening, writing, loading, at, beginning, taking, at_rota, saving_heads, restoring_heads, number_in, wrote}
 use Rattle.frame.specs.Calls.{Done, with_save, perform}
 use Rattle.frame.specs.History.{Histories, no_histories, call_number, grown, advance, advance_all}
 use Rattle.frame.specs.Demand.{frame_after}
@@ -119,8 +119,8 @@ part_other f (at h a) z = ap left_of (kept the_save f (at h a) refl)
 part_other f beginning z = absurd (z refl)
 part_other f (taking out) z = part_taken f out
 part_other f (at_rota c) z = ap left_of (kept the_save f (at_rota c) refl)
-part_other f (saving out) z = ap left_of (kept the_save f (saving out) refl)
-part_other f (restoring b) z = ap left_of (kept the_save f (restoring b) refl)
+part_other f (saving_heads out) z = ap left_of (kept the_save f (saving_heads out) refl)
+part_other f (restoring_heads b) z = ap left_of (kept the_save f (restoring_heads b) refl)
 
 joined_first : (f : Frame) (c : Call) (cs : List Call) → Part_of f c
     → parts_from (perform f c).frame cs ++ left_of (frame_after (perform f c).frame cs).save ≡ left_of (perform f c).frame.save

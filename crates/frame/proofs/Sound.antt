@@ -23,7 +23,7 @@ use Rattle.saved_heads.specs.Bytes.{heads_in}
 use Rattle.saved_heads.specs.Saved.{restore_refusal}
 use Rattle.saved_heads.proofs.Heads.{head_valid}
 use Rattle.saved_heads.proofs.RoundTrip.{heads_return}
-use Rattle.frame.specs.Call.{Call, opening, writing, loading, at, beginning, taking, at_rota, saving, restoring}
+use Rattle.frame.specs.Call.{Call, opening, writing, loading, at, beginning, taking, at_rota, saving_heads, restoring_heads}
 use Rattle.frame.specs.History.{Histories, no_histories, head_first, call_number, with_history, grown, advance, advance_all}
 
 -- the library is that of a sheet, or none, and its entries are the sheet's; where there are some, it is a sheet
@@ -68,8 +68,8 @@ sound_accepted H (at h a) S q =
 sound_accepted H beginning S q = record { sheet = S.sheet; each = S.each }
 sound_accepted H (taking out) S q = record { sheet = S.sheet; each = S.each }
 sound_accepted H (at_rota c) S q = record { sheet = S.sheet; each = S.each }
-sound_accepted H (saving out) S q = S
-sound_accepted H (restoring b) S q = record { sheet = S.sheet; each = sound_restored b q }
+sound_accepted H (saving_heads out) S q = S
+sound_accepted H (restoring_heads b) S q = record { sheet = S.sheet; each = sound_restored b q }
 
 pub sound_advance : (H : Histories) (c : Call) → Sound H → Sound (advance H c)
 unfolding advance

@@ -14,9 +14,10 @@ pub data Call : Type 0 where
   taking : List ℕ → Call
   -- of the rota (02 b)
   at_rota : rota.Call → Call
-  -- of a saved frame (02 k): a save with its output, and a restore with the bytes
-  saving : List ℕ → Call
-  restoring : List ℕ → Call
+  -- of a saved frame (02 k): a save of the heads with its output, and a restore with the bytes. `Saving` and the crate `saves` are of the
+  -- library's save (02 h)
+  saving_heads : List ℕ → Call
+  restoring_heads : List ℕ → Call
 
 -- The number, which is 0 where the call is accepted; the count of the bytes, if it writes some, with the lent output as it stands then; or
 -- what a head or the rota replies.
@@ -41,5 +42,5 @@ refused n (at h a) = acted (refused_act n a)
 refused n beginning = plain n
 refused n (taking out) = wrote n 0 out
 refused n (at_rota c) = of_rota (rota.refused n c)
-refused n (saving out) = wrote n 0 out
-refused n (restoring b) = plain n
+refused n (saving_heads out) = wrote n 0 out
+refused n (restoring_heads b) = plain n

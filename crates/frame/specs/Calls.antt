@@ -18,7 +18,7 @@ use Rattle.rota.specs.declared.Grant.{Grant}
 use Rattle.rota.specs.declared.Rota.{Rota}
 use Rattle.saved_heads.specs.Bytes.{heads_in}
 use Rattle.saved_heads.specs.Saved.{save_number, saved_length, saved_in, restore_refusal}
-use Rattle.frame.specs.Call.{Call, opening, writing, loading, at, beginning, taking, at_rota, saving, restoring, Reply, plain, wrote, acted, of_rota, refused}
+use Rattle.frame.specs.Call.{Call, opening, writing, loading, at, beginning, taking, at_rota, saving_heads, restoring_heads, Reply, plain, wrote, acted, of_rota, refused}
 use Rattle.frame.specs.declared.Frame.{Frame}
 
 -- ---- a frame's parts
@@ -82,8 +82,8 @@ abbrev pub rota_done : Frame → rota.Done → Done
 rota_done f d = record { reply = of_rota d.reply; frame = with_rota f d.rota }
 
 -- a refused save has the length 0
-abbrev pub saves : List Head → List ℕ → Reply
-saves xs out = wrote (save_number xs out) (unless_refused (save_number xs out) 0 (saved_length xs)) (saved_in xs out)
+abbrev pub saves_heads : List Head → List ℕ → Reply
+saves_heads xs out = wrote (save_number xs out) (unless_refused (save_number xs out) 0 (saved_length xs)) (saved_in xs out)
 
 unfoldable pub perform : Frame → Call → Done
 perform f (opening s) = cond (eqb (check_of s) 0) (record { reply = plain 0; frame = with_library f (library.library_of s) }) (refuse f (opening s) (check_of s))
@@ -93,8 +93,8 @@ perform f (at h a) = at_head f (at h a) h (settled f h (turn (head_at f h) a))
 perform f beginning = record { reply = plain (begin_refusal (length (left_of f.save)) f.library); frame = with_save f (begin_of f.save f.library) }
 perform f (taking out) = record { reply = takes f.save out; frame = with_save f (take_of f.save out) }
 perform f (at_rota c) = rota_done f (rota.perform f.rota c)
-perform f (saving out) = record { reply = saves f.heads out; frame = f }
-perform f (restoring b) = cond (eqb (restore_refusal b) 0) (record { reply = plain 0; frame = with_heads f (heads_in b) }) (refuse f (restoring b) (restore_refusal b))
+perform f (saving_heads out) = record { reply = saves_heads f.heads out; frame = f }
+perform f (restoring_heads b) = cond (eqb (restore_refusal b) 0) (record { reply = plain 0; frame = with_heads f (heads_in b) }) (refuse f (restoring_heads b) (restore_refusal b))
 
 -- ---- the answers of the code, the frame that it leaves, and the lent outputs as they are left. A refused call answers 0 beside its number
 

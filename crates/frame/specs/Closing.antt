@@ -9,9 +9,9 @@ use Rattle.rota.specs.Follows.{rota_for}
 use Rattle.heads.specs.Binary32.{RepresentableSamples}
 use Rattle.saved_heads.specs.Bytes.{bytes_of, heads_in}
 use Rattle.saved_heads.specs.Saved.{saved_length}
-use Rattle.frame.specs.Call.{Call, at, saving, restoring, plain, wrote, number_in}
+use Rattle.frame.specs.Call.{Call, at, saving_heads, restoring_heads, plain, wrote, number_in}
 use Rattle.frame.specs.Calls.{with_heads, Done, perform}
-use Rattle.frame.specs.History.{Histories, no_histories, opened_with, advance_all}
+use Rattle.frame.specs.History.{Histories, no_histories, with_restored, advance_all}
 use Rattle.frame.specs.Demand.{Upheld}
 use Rattle.frame.specs.Saves.{written_bytes, after}
 use Rattle.frame.specs.declared.Frame.{Frame}
@@ -24,10 +24,10 @@ LendsBinary32 _ = ⊤
 -- ---- what is saved of a frame, and restored on another
 
 abbrev pub save_done : Frame → List ℕ → Done
-save_done f out = perform f (saving out)
+save_done f out = perform f (saving_heads out)
 
 abbrev pub restore_done : Frame → List ℕ → Done
-restore_done f b = perform f (restoring b)
+restore_done f b = perform f (restoring_heads b)
 
 -- f is saved into an output, and what is written there gives its heads to g
 pub record Returns (f g : Frame) (out : List ℕ) : Type 0 where
@@ -65,7 +65,7 @@ pub record Closing : Type 0 where
   -- every list of calls on a restored frame is upheld: each head's history is opened by its restored filter, and its checkpoints by those of
   -- the marks; the library, the save and the rota are those that stand there
   pub onward : (f : Frame) (H : Histories) (b : List ℕ) (cs : List Call) → Beside f H → number_in (restore_done f b).reply ≡ 0
-      → Upheld (restore_done f b).frame (opened_with H (heads_in b)) cs
+      → Upheld (restore_done f b).frame (with_restored H (heads_in b)) cs
   -- so it is after any calls on a fresh frame
   pub after_calls : (ds : List Call) (b : List ℕ) (cs : List Call) → number_in (restore_done (after ds) b).reply ≡ 0
-      → Upheld (restore_done (after ds) b).frame (opened_with (advance_all no_histories ds) (heads_in b)) cs
+      → Upheld (restore_done (after ds) b).frame (with_restored (advance_all no_histories ds) (heads_in b)) cs

@@ -14,7 +14,7 @@ use Rattle.heads.specs.Valid.{restored_history}
 use Rattle.heads.specs.declared.Head.{Head}
 use Rattle.saved_heads.specs.Bytes.{bytes_of, heads_in}
 use Rattle.saved_heads.specs.Saved.{save_number, saved_length, restore_refusal}
-use Rattle.frame.specs.Call.{Call, opening, writing, loading, at, beginning, taking, at_rota, saving, restoring, Reply, plain, wrote, acted, of_rota, refused}
+use Rattle.frame.specs.Call.{Call, opening, writing, loading, at, beginning, taking, at_rota, saving_heads, restoring_heads, Reply, plain, wrote, acted, of_rota, refused}
 
 -- the sheet of the last accepted open, the empty list before any; each head's history; what is left to take of the save that was begun last
 -- (02 h), the empty list where none is unfinished; and the rota's history, of its own calls (02 b)
@@ -50,8 +50,8 @@ call_number H (at h a) = head_first h (act_number (H.heads h) a)
 call_number H beginning = begin_refusal (length H.left) (library_of H.sheet)
 call_number H (taking out) = finished_refusal (length H.left)
 call_number H (at_rota c) = rota.call_number H.rota c
-call_number H (saving out) = save_number (heads_of H) out
-call_number H (restoring b) = restore_refusal b
+call_number H (saving_heads out) = save_number (heads_of H) out
+call_number H (restoring_heads b) = restore_refusal b
 
 -- ---- what an accepted call adds
 
@@ -62,9 +62,9 @@ changed_at h x g j = cond (eqb j h) x (g j)
 abbrev pub with_history : Histories → ℕ → HeadHistory → Histories
 with_history H h x = record H { heads = changed_at h x H.heads }
 
--- every head's history anew: that of the head that was restored there (02 k)
-abbrev pub opened_with : Histories → List Head → Histories
-opened_with H xs = record H { heads = λ h. restored_history (get_or xs h empty_head) }
+-- all heads' histories anew: each is opened by what was restored into the head (02 k); the sheet, the save and the rota's history stay
+abbrev pub with_restored : Histories → List Head → Histories
+with_restored H xs = record H { heads = λ h. restored_history (get_or xs h empty_head) }
 
 -- A load adds the entry's kind byte and words as they stood in the last accepted open. A begin leaves the bytes of that open's sheet to
 -- take, and a take those for which its output has no room; neither adds to a head's history. Nor does a save of the frame.
@@ -76,8 +76,8 @@ grown H (at h a) = with_history H h (grown_by (H.heads h) a)
 grown H beginning = record H { left = H.sheet }
 grown H (taking out) = record H { left = drop (room 0 H.left out) H.left }
 grown H (at_rota c) = record H { rota = rota.advance H.rota c }
-grown H (saving out) = H
-grown H (restoring b) = opened_with H (heads_in b)
+grown H (saving_heads out) = H
+grown H (restoring_heads b) = with_restored H (heads_in b)
 
 -- a refused call adds nothing
 unfoldable pub advance : Histories → Call → Histories
@@ -97,8 +97,8 @@ accepted H (at h a) = acted (accepted_act (H.heads h) a)
 accepted H beginning = plain 0
 accepted H (taking out) = wrote 0 (room 0 H.left out) (over 0 H.left out)
 accepted H (at_rota c) = of_rota (rota.reply_to H.rota c)
-accepted H (saving out) = wrote 0 (saved_length (heads_of H)) (over 0 (bytes_of (heads_of H)) out)
-accepted H (restoring b) = plain 0
+accepted H (saving_heads out) = wrote 0 (saved_length (heads_of H)) (over 0 (bytes_of (heads_of H)) out)
+accepted H (restoring_heads b) = plain 0
 
 unfoldable pub reply_to : Histories → Call → Reply
 reply_to H c = cond (eqb (call_number H c) 0) (accepted H c) (refused (call_number H c) c)

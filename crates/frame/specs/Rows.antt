@@ -12,7 +12,7 @@ use Rattle.heads.specs.Rows.{ActCase, numbers_of}
 use Rattle.saves.specs.Rows.{BeginCase, TakeCase}
 use Rattle.rota.specs.Rows as rota
 use Rattle.saved_heads.specs.Rows.{SaveCase, RestoreCase}
-use Rattle.frame.specs.Call.{Call, opening, writing, loading, at, beginning, taking, at_rota, saving, restoring}
+use Rattle.frame.specs.Call.{Call, opening, writing, loading, at, beginning, taking, at_rota, saving_heads, restoring_heads}
 use Rattle.frame.specs.History.{Histories, no_histories, call_number, advance_all}
 
 -- a call at the head h: its own cases are those of the head
@@ -27,8 +27,8 @@ pub data LoadCase (s : List ℕ) (e : ℕ) : ℕ → Type 0 where
   no_entry : entries_of s ≤ e → LoadCase s e 5
 
 -- how many rows the twelve heads are saved as: one each, and one for each checkpoint (02 k)
-abbrev pub row_count : (ℕ → HeadHistory) → ℕ
-row_count g = sum (table 12 (λ h. 1 + length (g h).checkpoints))
+abbrev pub saved_row_count : (ℕ → HeadHistory) → ℕ
+saved_row_count g = sum (table 12 (λ h. 1 + length (g h).checkpoints))
 
 -- A sheet, a write, a begin, a take, the rota's calls and saved frames have rows of their own, below the frame.
 abbrev pub Row : Histories → Call → ℕ → Type 0
@@ -39,8 +39,8 @@ Row H (at h a) n = Exactly (AtCase h (ActCase (H.heads h) a)) (1 ∷ numbers_of 
 Row H beginning n = Exactly (BeginCase (length H.left) (entries_of H.sheet)) (16 ∷ 2 ∷ []) n
 Row H (taking out) n = Exactly (TakeCase (length H.left)) (17 ∷ []) n
 Row H (at_rota c) n = Exactly (rota.RotaCase H.rota c) (rota.numbers_of c) n
-Row H (saving out) n = Exactly (SaveCase (row_count H.heads) (length out)) (12 ∷ []) n
-Row H (restoring b) n = Exactly (RestoreCase b) (20 ∷ []) n
+Row H (saving_heads out) n = Exactly (SaveCase (saved_row_count H.heads) (length out)) (12 ∷ []) n
+Row H (restoring_heads b) n = Exactly (RestoreCase b) (20 ∷ []) n
 
 -- after any calls on a fresh frame, a call's number is that of its row
 unfoldable pub NumbersByRows : Type 0

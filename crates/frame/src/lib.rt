@@ -6,7 +6,7 @@ ghost use Rattle.filter_core.specs.Refusal.{number_in};
 ghost use Rattle.heads.specs.Act.{run, run_two, rest, mark, back, drop, count};
 ghost use Rattle.rota.specs.Call.{tell, turn};
 ghost use Rattle.rota.specs.Rota.{head_refusal};
-ghost use Rattle.frame.specs.Call.{opening, writing, loading, at, beginning, taking, at_rota, saving, restoring};
+ghost use Rattle.frame.specs.Call.{opening, writing, loading, at, beginning, taking, at_rota, saving_heads, restoring_heads};
 ghost use Rattle.frame.specs.Calls.{head_at, fresh_frame, perform, plainly, acting, with_output, with_outputs, with_mark, with_count, with_written, with_telling, with_grant};
 ghost use Rattle.frame.specs.Refused.{RefusedLeaves};
 ghost use Rattle.frame.specs.Rows.{NumbersByRows};
@@ -186,7 +186,7 @@ impl Frame {
     // Writes the saved form of the heads with their marks and counts, and answers its length. Places behind it keep their contents.
     #[tactic(auto, unfolding(crate::specs::Calls::perform))]
     pub fn save_heads(&self, output: &mut [u8]) -> Result<usize, Refusal>
-        ensures { with_written result self.now output.new ≡ perform self.now (saving output.old) }
+        ensures { with_written result self.now output.new ≡ perform self.now (saving_heads output.old) }
     {
         saved_heads::save(&self.heads, output)
     }
@@ -194,7 +194,7 @@ impl Frame {
     // Replaces all twelve heads by those that were saved as these bytes. The library, the save that was begun and the rota stay.
     #[tactic(auto, unfolding(crate::specs::Calls::perform))]
     pub fn restore_heads(&mut self, bytes: &[u8]) -> Result<(), Refusal>
-        ensures { plainly result self.new ≡ perform self.old (restoring bytes.now) }
+        ensures { plainly result self.new ≡ perform self.old (restoring_heads bytes.now) }
     {
         self.heads = saved_heads::restore(bytes)?;
         Ok(())

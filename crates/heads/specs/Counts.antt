@@ -1,4 +1,5 @@
--- The count of a history (document 02, i): counted event by event, it is the sum of the samples since the last load.
+-- The count of a history (document 02, i): counted event by event, it is the sum of the samples since the last load, or since the last restored
+-- filter with the count that it brought (02 k).
 use Rattle.std.specs.Prelude.{◌≡◌, List}
 use Rattle.heads.specs.History.{Event, count_of, snapshot_of}
 

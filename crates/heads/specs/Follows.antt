@@ -30,7 +30,7 @@ pub record SoundHead (x : HeadHistory) : Type 0 where
   pub good : Good x.history
   pub goods : (m : ℕ) → Good (get_or x.checkpoints m [])
   pub four : length x.checkpoints ≤ 4
-  -- only what was loaded is marked
+  -- no checkpoint is empty, and an empty head has none
   pub filled : All (λ (l : List Event). l ≡ [] → ⊥) x.checkpoints
   pub of_empty : x.history ≡ [] → x.checkpoints ≡ []
 

@@ -1,4 +1,5 @@
--- What a rest is to a history (document 02, e): from it on, the head's filter is what it would be if the head had just been loaded.
+-- What a rest is to a history (document 02, e): from it on, the head's filter is what it would be if the head had just been loaded; or, where a
+-- filter was restored since its load (02 k), had just been restored at rest.
 use Rattle.std.specs.Prelude.{◌≡◌, List, [], ◌∷◌, ◌++◌}
 use Rattle.any_filter.specs.Cases.{rested}
 use Rattle.heads.specs.History.{Event, load_event, run_event, rest_event, restored_event, snapshot_of}

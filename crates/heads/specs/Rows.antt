@@ -21,13 +21,13 @@ pub data ActCase (x : HeadHistory) : Act → ℕ → Type 0 where
   no_drop : {m : ℕ} → length x.checkpoints ≤ m → ActCase x (drop m) 7
   -- 8: the row has four lists
   full : length x.checkpoints ≡ 4 → ActCase x mark 8
-  -- 9: the filter of the last load has no such form in this call
+  -- 9: the filter of the last load, or the one restored since, has no such form in this call
   no_form : {form : RunForm} {us ys : List Float} → (Has (last_type x.history) form → ⊥) → ActCase x (run form us ys) 9
   no_form_two : {form : RunForm} {us ys zs : List Float} → (HasTwo (last_type x.history) form → ⊥) → ActCase x (run_two form us ys zs) 9
   -- 10: by a step of 0
   no_step : {form : RunForm} {us ys : List Float} → StepOfZero form → ActCase x (run form us ys) 10
   no_step_two : {form : RunForm} {us ys zs : List Float} → StepOfZero form → ActCase x (run_two form us ys zs) 10
-  -- 18 (02 i): the samples since the last load and those of this run are more than 4,294,967,295
+  -- 18 (02 i): the history's count and the samples of this run are more than 4,294,967,295
   over_run : {form : RunForm} {us ys : List Float} → 4294967295 < count_of x.history + length (within us ys) → ActCase x (run form us ys) 18
   over_two :
       {form : RunForm}

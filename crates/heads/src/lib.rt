@@ -21,7 +21,8 @@ use filter_core::Refusal;
 use runs::RunForm;
 use sheets::Entry;
 
-// What a mark keeps of a head, and what the head itself holds. The count is that of the samples sewn since the load, 0 while empty.
+// What a mark keeps of a head, and what the head itself holds. The count is that of the samples sewn since the load, on from the
+// restored count where a filter was restored (02 k), and 0 while empty.
 #[derive(Clone, Copy, Default)]
 pub struct Snapshot {
     pub filter: Option<Filter>,
@@ -154,13 +155,13 @@ pub fn head_by_rows()
     ensures { HeadByRows }
 {}
 
-// Every history's count is the sum of its samples since the last load.
+// Every history's count is the sum of its samples since the last load, or of a restored filter's count and the samples since (02 k).
 #[tactic(auto, using(crate::proofs::Counts::count_is))]
 pub fn counts_are_sums()
     ensures { CountsAreSums }
 {}
 
-// From a rest on, a head's filter is what it would be if the head had just been loaded.
+// From a rest on, a head's filter is what it would be if the head had just been loaded, or restored at rest (02 k).
 #[tactic(auto, using(crate::proofs::Rest::rest_is_load))]
 pub fn rest_is_load()
     ensures { RestIsLoad }

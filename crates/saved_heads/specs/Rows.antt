@@ -1,4 +1,4 @@
--- The refusals of 02 k, row by row.
+-- When 12 and 20 are given: the two rows of the refusal table that 02 k has. The rows of a saved frame are in Row.antt.
 use Rattle.std.specs.Prelude.{ℕ, ◌+◌, ◌*◌, ◌<◌, ◌≡◌, List, [], ◌∷◌, length}
 use Rattle.filter_core.specs.Rows.{Exactly}
 use Rattle.heads.specs.declared.Head.{Head}

@@ -1,6 +1,6 @@
 // A saved frame (02 k): twelve heads with their marks as bytes, and the heads that bytes say.
-// Bytes are accepted where the heads that they say are saved as the same bytes. That holds every rule but two, which `grow` keeps: a mark is
-// never empty, and an empty head has none.
+// Bytes are accepted where the heads that they say are saved as the same bytes. That enforces every rule but three, which `grow` keeps: a head
+// has four marks at most, a mark is never empty, and an empty head has none.
 #![tactic(auto)]
 
 ghost use Rattle.std.specs.Prelude.{◌≡◌, ◌+◌, ◌≤◌, ◌++◌, length, replicate, bytes_eq, IfOk};

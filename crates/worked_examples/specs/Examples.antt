@@ -35,7 +35,7 @@ use Rattle.runs.specs.declared.form.RunForm.TheVariants.{Plain, Stride}
 use Rattle.heads.specs.Act.{run, rest, mark, back, count, answered, marked, ran, counted}
 use Rattle.heads.specs.Snapshot.{count_refusal, holds}
 use Rattle.rota.specs.Call.{tell, turn, of_tell, of_turn}
-use Rattle.frame.specs.Call.{Call, opening, loading, at, beginning, taking, at_rota, saving, restoring, Reply, plain, wrote, acted, of_rota}
+use Rattle.frame.specs.Call.{Call, opening, loading, at, beginning, taking, at_rota, saving_heads, restoring_heads, Reply, plain, wrote, acted, of_rota}
 use Rattle.frame.specs.History.{no_histories, replies_to}
 
 -- ---- the numbers
@@ -197,13 +197,13 @@ saved_frame =
 
 -- the frame is saved in the evening, and in the morning restored on a fresh one
 abbrev pub evening : List Call
-evening = opening sheet ∷ loading 0 0 ∷ run_one ∷ at 0 mark ∷ run_one ∷ at 0 mark ∷ saving (replicate 533 0xee) ∷ saving (replicate 535 0xee) ∷ []
+evening = opening sheet ∷ loading 0 0 ∷ run_one ∷ at 0 mark ∷ run_one ∷ at 0 mark ∷ saving_heads (replicate 533 0xee) ∷ saving_heads (replicate 535 0xee) ∷ []
 
 abbrev pub morning : List Call
 morning =
-    restoring (drop 1 saved_frame)
+    restoring_heads (drop 1 saved_frame)
     ∷ at 0 count
-    ∷ restoring saved_frame
+    ∷ restoring_heads saved_frame
     ∷ loading 0 0
     ∷ run_one
     ∷ at 0 count
