@@ -28,6 +28,7 @@ number row.Series = 15
 number row.Unfinished = 16
 number row.Finished = 17
 number row.Count = 18
+number row.Partial = 19
 number row.Frame = 20
 
 -- the number that a call answers: 0 where it is accepted

@@ -5,7 +5,7 @@ ghost use Rattle.filter_core.specs.Refusal.{number, number_in, step_refusal, fre
 
 use crate::FrequencyApproximation;
 
-// The rows of the refusal table of document 01, and of 02 those that b, f, h, i and k add. A row's number is its variant's.
+// The rows of the refusal table of document 01, and of 02 those that b, f, h, i, j and k add. A row's number is its variant's.
 #[derive(Clone, Copy, Debug, PartialEq, Eq)]
 pub enum Refusal {
     Head = 1,
@@ -26,6 +26,7 @@ pub enum Refusal {
     Unfinished = 16,
     Finished = 17,
     Count = 18,
+    Partial = 19,
     Frame = 20,
 }
 
