@@ -52,10 +52,10 @@ pub fills_all : {xs ys zs : List ℕ} → Fills xs ys zs → length xs ≡ lengt
 fills_all {xs} {ys} f e = f.list ∙ ap (λ (l : List ℕ). xs ++ l) (drop_of_length-le ys (omega arith)) ∙ append-nil xs
 
 -- byte p of the sample i, as the loop reads it
-byte_read : (s bs : List ℕ) (i p : ℕ) → bs ≡ take 4 (drop (4 * i) s) → p < 4 → get_or bs p 0 ≡ cell 4 s i p
-byte_read s bs i p e l =
-    ap (λ (t : List ℕ). get_or t p 0) e ∙ get_or-take 4 (drop (4 * i) s) p 0 l ∙ get_or-drop (4 * i) s p 0
-    ∙ ap (λ (k : ℕ). get_or s k 0) {x = 4 * i + p} {y = i * 4 + p} (omega arith)
+byte_read : (s bs : List ℕ) (i p : ℕ) {q : ℕ} → bs ≡ take 4 (drop (4 * i) s) → q ≡ p → p < 4 → get_or bs q 0 ≡ cell 4 s i p
+byte_read s bs i p {q} e h l =
+    ap (λ (t : List ℕ). get_or t q 0) e ∙ get_or-take 4 (drop (4 * i) s) q 0 (omega arith) ∙ get_or-drop (4 * i) s q 0
+    ∙ ap (λ (k : ℕ). get_or s k 0) {x = 4 * i + q} {y = i * 4 + p} (omega arith)
 
 -- ---- samples to planes
 
@@ -100,17 +100,18 @@ module _ {n : ℕ} {s y0 y1 y2 y3 : List ℕ} where
         fourth = plane_none s 3 d;
       }
 
-  pub spread_more : {i : ℕ} {z0 z1 z2 z3 bs ws : List ℕ} → Spread n s y0 y1 y2 y3 i z0 z1 z2 z3 → i < n → bs ≡ ws → ws ≡ take 4 (drop (4 * i) s)
-      → Spread n s y0 y1 y2 y3 (i + 1) (set z0 i (get_or bs 0 0)) (set z1 i (get_or bs 1 0)) (set z2 i (get_or bs 2 0)) (set z3 i (get_or bs 3 0))
-  spread_more {i} {z0} {z1} {z2} {z3} {bs} g h d e =
+  pub spread_more : {i p0 p1 p2 p3 : ℕ} {z0 z1 z2 z3 bs ws : List ℕ} → Spread n s y0 y1 y2 y3 i z0 z1 z2 z3 → i < n
+      → bs ≡ ws → ws ≡ take 4 (drop (4 * i) s) → p0 ≡ 0 → p1 ≡ 1 → p2 ≡ 2 → p3 ≡ 3
+      → Spread n s y0 y1 y2 y3 (i + 1) (set z0 i (get_or bs p0 0)) (set z1 i (get_or bs p1 0)) (set z2 i (get_or bs p2 0)) (set z3 i (get_or bs p3 0))
+  spread_more {i} {bs = bs} g h d e q0 q1 q2 q3 =
       let b = d ∙ e in
       record {
         whole = g.whole;
         inside = omega arith;
-        first = plane_more g.first h (byte_read s bs i 0 b (omega arith));
-        second = plane_more g.second h (byte_read s bs i 1 b (omega arith));
-        third = plane_more g.third h (byte_read s bs i 2 b (omega arith));
-        fourth = plane_more g.fourth h (byte_read s bs i 3 b (omega arith));
+        first = plane_more g.first h (byte_read s bs i 0 b q0 (omega arith));
+        second = plane_more g.second h (byte_read s bs i 1 b q1 (omega arith));
+        third = plane_more g.third h (byte_read s bs i 2 b q2 (omega arith));
+        fourth = plane_more g.fourth h (byte_read s bs i 3 b q3 (omega arith));
       }
 
   -- what stands behind the planes was cut off plane by plane
@@ -127,38 +128,38 @@ module _ {n : ℕ} {s y0 y1 y2 y3 : List ℕ} where
 
 -- ---- planes to samples
 
+-- byte p of the sample i, among the planes
+abbrev pub byte_of : ℕ → List ℕ → ℕ → ℕ → ℕ
+byte_of n t i p = cell n t p i
+
 -- as the loop comes to the sample i, the output z has those before it
 pub record Joined (n : ℕ) (t y : List ℕ) (i : ℕ) (z : List ℕ) : Type 0 where
   pub whole : 4 * n ≤ length t
   pub room : 4 * n ≤ length y
   pub inside : i ≤ n
-  pub filled : Fills (rows i 4 (λ j p. cell n t p j)) y z
+  pub filled : Fills (rows i 4 (byte_of n t)) y z
 
 module _ {n : ℕ} {t y : List ℕ} where
   pub join_start : 4 * n ≤ length t → 4 * n ≤ length y → Joined n t y 0 y
   unfolding rows
   join_start w r = record { whole = w; room = r; inside = omega arith; filled = fills_none y }
 
-  pub join_more : {i : ℕ} {z : List ℕ} → Joined n t y i z → i < n
-      → Joined n t y (i + 1)
-      (set (set (set (set z (4 * i) (get_or t i 0)) (4 * i + 1) (get_or t (n + i) 0)) (4 * i + 2) (get_or t (2 * n + i) 0)) (4 * i + 3) (get_or t (3 * n + i) 0))
+  pub join_more : {i k0 k1 k2 k3 q0 q1 q2 q3 : ℕ} {z : List ℕ} → Joined n t y i z → i < n
+      → k0 ≡ 4 * i → k1 ≡ 4 * i + 1 → k2 ≡ 4 * i + 2 → k3 ≡ 4 * i + 3 → q0 ≡ 0 * n + i → q1 ≡ 1 * n + i → q2 ≡ 2 * n + i → q3 ≡ 3 * n + i
+      → Joined n t y (i + 1) (set (set (set (set z k0 (get_or t q0 0)) k1 (get_or t q1 0)) k2 (get_or t q2 0)) k3 (get_or t q3 0))
   unfolding table
-  join_more {i} g h =
-      let f = λ (j p : ℕ). cell n t p j in
-      let k : length (rows i 4 f) ≡ 4 * i = length_rows i 4 f ∙ omega arith in
+  join_more {i} g h a b c d e0 e1 e2 e3 =
+      let k : length (rows i 4 (byte_of n t)) ≡ 4 * i = length_rows i 4 (byte_of n t) ∙ omega arith in
       let q = g.room in
-      let e0 : 0 * n + i ≡ i = omega arith in
-      let e1 : 1 * n + i ≡ n + i = omega arith in
       record {
         whole = g.whole;
         room = g.room;
         inside = omega arith;
-        filled = rw (rows_more i 4 f, e0, e1) (fills_four _ _ _ _ g.filled (sym k) (omega arith));
+        filled = rw (rows_more i 4 (byte_of n t), a, b, c, d, e0, e1, e2, e3) (fills_four _ _ _ _ g.filled (sym k) (omega arith));
       }
 
   pub join_end : {i : ℕ} {z : List ℕ} → Joined n t y i z → (i < n → ⊥) → z ≡ samples_of n t ++ drop (4 * n) y
   join_end {i} {z} g h =
       let e : i ≡ n = omega (arith, g.inside) in
-      let f = λ (j p : ℕ). cell n t p j in
-      let k : length (rows i 4 f) ≡ 4 * i = length_rows i 4 f ∙ omega arith in
+      let k : length (rows i 4 (byte_of n t)) ≡ 4 * i = length_rows i 4 (byte_of n t) ∙ omega arith in
       g.filled.list ∙ rw (k, e) refl

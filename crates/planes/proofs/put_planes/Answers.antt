@@ -1,4 +1,4 @@
-use Rattle.std.proofs.Common.{rules}
+use Rattle.std.proofs.Common.{arith, rules}
 use Rattle.planes.proofs.Loops.{spread_start, spread_more, spread_end}
 use Rattle.planes.proofs.put_planes.Goals as goal
 
@@ -6,7 +6,7 @@ pub loop-i-init : goal.loop-i-init
 loop-i-init c = spread_start (search rules) (search rules) (search rules) (search rules) (search rules)
 
 pub loop-i-preserved : goal.loop-i-preserved
-loop-i-preserved c = spread_more c.loop-i.invariant (search rules) c.to_le_bytes.ensures c.sample_at.ensures
+loop-i-preserved c = spread_more c.loop-i.invariant (search rules) c.to_le_bytes.ensures c.sample_at.ensures (omega arith) (omega arith) (omega arith) (omega arith)
 
 pub returns : goal.returns
 returns c =
