@@ -7,6 +7,7 @@ use Rattle.crossover_svf.specs.CrossoverSvf.{crossover_next, crossover_out}
 use Rattle.sheets.specs.Refusal.{first_refusal, entry_refusal}
 use Rattle.lists.specs.Over.{over}
 use Rattle.lists.specs.Table.{table}
+use Rattle.planes.specs.Grid.{rows}
 use Rattle.runs.specs.Run.{through, first_output}
 use Rattle.loads.specs.Load.{filter_for}
 use Rattle.heads.specs.History.{type_from, since_from, samples_in, snapshot_from}
@@ -19,7 +20,7 @@ use Rattle.frame.specs.History.{replies_to, reply_to, advance, call_number}
 use Rattle.worked_examples.proofs.worked_examples.Goals as goal
 
 pub returns : goal.returns
-unfolding of_bits add sub mul div neg lt le is_nan first_refusal entry_refusal over table filter_for through first_output replies_to reply_to advance call_number zero_bytes type_from since_from samples_in snapshot_from ring_after account last_served to_bits row_of snapshot_in row_at rows_from with_row svf_next svf_out svf_mixed naive_low naive_high naive_next naive_out modified_next modified_out crossover_next crossover_out
+unfolding rows of_bits add sub mul div neg lt le is_nan first_refusal entry_refusal over table filter_for through first_output replies_to reply_to advance call_number zero_bytes type_from since_from samples_in snapshot_from ring_after account last_served to_bits row_of snapshot_in row_at rows_from with_row svf_next svf_out svf_mixed naive_low naive_high naive_next naive_out modified_next modified_out crossover_next crossover_out
 returns c =
     record {
       dc_blocker = refl;
@@ -68,4 +69,9 @@ returns c =
       saved_count = refl;
       evening_replies = refl;
       morning_replies = refl;
+      planes_bytes = refl;
+      planes_back = refl;
+      planes_partial = refl;
+      planes_short = refl;
+      planes_of_none = refl;
     }
