@@ -1,34 +1,46 @@
 -- The keywords of lines.
-use Rattle.std.specs.Prelude.{ℕ, List, [], ◌∷◌, Option, codes}
+use Rattle.std.specs.Prelude.{ℕ, List, [], ◌∷◌, Result, map, ok_or, codes}
+use Rattle.std.proofs.Common.{Bor}
 use Rattle.form_text.specs.Name.{look_up}
 use Rattle.call_text.specs.declared.keyword.Keyword.{Keyword}
-use Rattle.call_text.specs.declared.keyword.Keyword.TheVariants.{Open, Load, Run, Two, Rest, Mark, Back, Drop, Write, Check, Lookup, Head, Check1, Lookup1, Convert, Count, Begin, Take, Tell, Turn, Save, Restore}
+use Rattle.call_text.specs.declared.keyword.Keyword.TheVariants.{Alone, OfHead, OfHeadNumber, OfBytes, OfBytesNumber, Run, Two, Tell, Convert}
+use Rattle.call_text.specs.declared.keyword.Alone.TheVariants.{Begin, Turn}
+use Rattle.call_text.specs.declared.keyword.OfHead.TheVariants.{Rest, Mark, Head, Count}
+use Rattle.call_text.specs.declared.keyword.OfHeadNumber.TheVariants.{Load, Back, Drop}
+use Rattle.call_text.specs.declared.keyword.OfBytes.TheVariants.{Open, Write, Take, Save, Restore}
+use Rattle.call_text.specs.declared.keyword.OfBytesNumber.TheVariants.{Check, Lookup, Check1, Lookup1}
+use Rattle.call_text.specs.declared.line.BadLine.{BadLine}
+use Rattle.call_text.specs.declared.line.BadLine.TheVariants.{NoCall}
 
 abbrev pub keywords : List (List ℕ × Keyword)
 keywords =
-    (codes "open", Open)
-    ∷ (codes "load", Load)
-    ∷ (codes "run", Run)
+    (codes "run", Run)
     ∷ (codes "two", Two)
-    ∷ (codes "rest", Rest)
-    ∷ (codes "mark", Mark)
-    ∷ (codes "back", Back)
-    ∷ (codes "drop", Drop)
-    ∷ (codes "write", Write)
-    ∷ (codes "check", Check)
-    ∷ (codes "lookup", Lookup)
-    ∷ (codes "head", Head)
-    ∷ (codes "check1", Check1)
-    ∷ (codes "lookup1", Lookup1)
-    ∷ (codes "convert", Convert)
-    ∷ (codes "count", Count)
-    ∷ (codes "begin", Begin)
-    ∷ (codes "take", Take)
+    ∷ (codes "turn", Alone Turn)
     ∷ (codes "tell", Tell)
-    ∷ (codes "turn", Turn)
-    ∷ (codes "save", Save)
-    ∷ (codes "restore", Restore)
+    ∷ (codes "load", OfHeadNumber Load)
+    ∷ (codes "rest", OfHead Rest)
+    ∷ (codes "mark", OfHead Mark)
+    ∷ (codes "back", OfHeadNumber Back)
+    ∷ (codes "drop", OfHeadNumber Drop)
+    ∷ (codes "open", OfBytes Open)
+    ∷ (codes "write", OfBytes Write)
+    ∷ (codes "begin", Alone Begin)
+    ∷ (codes "take", OfBytes Take)
+    ∷ (codes "save", OfBytes Save)
+    ∷ (codes "restore", OfBytes Restore)
+    ∷ (codes "head", OfHead Head)
+    ∷ (codes "count", OfHead Count)
+    ∷ (codes "check", OfBytesNumber Check)
+    ∷ (codes "lookup", OfBytesNumber Lookup)
+    ∷ (codes "check1", OfBytesNumber Check1)
+    ∷ (codes "lookup1", OfBytesNumber Lookup1)
+    ∷ (codes "convert", Convert)
     ∷ []
 
-abbrev pub keyword_of : List ℕ → Option Keyword
-keyword_of s = look_up s keywords
+abbrev pub keyword_of : List ℕ → Result Keyword BadLine
+keyword_of s = ok_or (look_up s keywords) NoCall
+
+-- the names of a table that are lent, as texts
+abbrev pub texts : List (Bor (List ℕ) × Keyword) → List (List ℕ × Keyword)
+texts rows = map (λ row. (row.0.now, row.1)) rows

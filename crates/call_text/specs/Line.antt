@@ -1,5 +1,5 @@
 -- A whole line of the text of calls.
-use Rattle.std.specs.Prelude.{ℕ, cond, List, [], ◌∷◌, Option, Some, None, Result, Ok, Err, eqb, ltb, length, get_or, option_map, option_and_then}
+use Rattle.std.specs.Prelude.{ℕ, Bool, true, cond, List, [], ◌∷◌, Option, Some, None, Result, Ok, Err, eqb, ltb, length, get_or, option_map, option_and_then}
 use Rattle.std.proofs.Common.{Bor}
 use Rattle.digits.specs.Decimal.{number_of}
 use Rattle.form_text.specs.Field.{fields_of, of_two, of_three, of_four, of_five}
@@ -9,6 +9,16 @@ use Rattle.call_text.specs.Edition.{edition_of}
 use Rattle.call_text.specs.Keyword.{keyword_of}
 use Rattle.call_text.specs.declared.keyword.Keyword.{Keyword}
 use Rattle.call_text.specs.declared.keyword.Keyword.TheVariants as keyword
+use Rattle.call_text.specs.declared.keyword.Alone.{Alone}
+use Rattle.call_text.specs.declared.keyword.Alone.TheVariants as alone
+use Rattle.call_text.specs.declared.keyword.OfHead.{OfHead}
+use Rattle.call_text.specs.declared.keyword.OfHead.TheVariants as of_head
+use Rattle.call_text.specs.declared.keyword.OfHeadNumber.{OfHeadNumber}
+use Rattle.call_text.specs.declared.keyword.OfHeadNumber.TheVariants as of_head_number
+use Rattle.call_text.specs.declared.keyword.OfBytes.{OfBytes}
+use Rattle.call_text.specs.declared.keyword.OfBytes.TheVariants as of_bytes
+use Rattle.call_text.specs.declared.keyword.OfBytesNumber.{OfBytesNumber}
+use Rattle.call_text.specs.declared.keyword.OfBytesNumber.TheVariants as of_bytes_number
 use Rattle.call_text.specs.declared.line.Call.{Call}
 use Rattle.call_text.specs.declared.line.Call.TheVariants.{Open, Load, Run, Two, Rest, Mark, Back, Drop, Write, Check, Lookup, Head, Check1, Lookup1, Convert, Count, Begin, Take, Tell, Turn, Save, Restore}
 use Rattle.call_text.specs.declared.line.BadLine.{BadLine}
@@ -25,11 +35,6 @@ small n = cond (ltb 65535 n) None (Some n)
 -- NUMBER, at most 65535
 abbrev pub small_number : List ℕ → Option ℕ
 small_number s = option_and_then small (number_of s)
-
--- not a word: the keyword alone is the call
-abbrev pub keyword_alone : CallOf → List (List ℕ) → Option CallOf
-keyword_alone call [] = Some call
-keyword_alone call _ = None
 
 -- HEAD
 abbrev pub one_number : List (List ℕ) → Option ℕ
@@ -71,49 +76,67 @@ abbrev pub two_call : List (List ℕ) → Option CallOf
 two_call (h ∷ f ∷ i ∷ o ∷ p ∷ []) = of_five Two (number_of h) (form_of f) (samples_field i) (samples_field o) (samples_field p)
 two_call _ = None
 
-abbrev pub paired : {A B : Type 0} → (A → B → CallOf) → A × B → CallOf
-paired call p = call p.0 p.1
+-- ---- the calls of the keywords behind which the same words stand
+
+abbrev pub alone_call : Alone → List (List ℕ) → Option CallOf
+alone_call alone.Begin [] = Some Begin
+alone_call alone.Turn [] = Some Turn
+alone_call _ _ = None
+
+abbrev pub head_call : OfHead → ℕ → CallOf
+head_call of_head.Rest h = Rest h
+head_call of_head.Mark h = Mark h
+head_call of_head.Head h = Head h
+head_call of_head.Count h = Count h
+
+abbrev pub head_number_call : OfHeadNumber → ℕ → ℕ → CallOf
+head_number_call of_head_number.Load h n = Load h n
+head_number_call of_head_number.Back h n = Back h n
+head_number_call of_head_number.Drop h n = Drop h n
+
+abbrev pub bytes_call : OfBytes → List ℕ → CallOf
+bytes_call of_bytes.Open b = Open b
+bytes_call of_bytes.Write b = Write b
+bytes_call of_bytes.Take b = Take b
+bytes_call of_bytes.Save b = Save b
+bytes_call of_bytes.Restore b = Restore b
+
+abbrev pub bytes_number_call : OfBytesNumber → List ℕ → ℕ → CallOf
+bytes_number_call of_bytes_number.Check b n = Check b n
+bytes_number_call of_bytes_number.Lookup b n = Lookup b n
+bytes_number_call of_bytes_number.Check1 b n = Check1 b n
+bytes_number_call of_bytes_number.Lookup1 b n = Lookup1 b n
 
 -- what the fields behind a keyword make
 abbrev pub call_for : Keyword → List (List ℕ) → Option CallOf
-call_for keyword.Open fields = option_map Open (one_buffer fields)
-call_for keyword.Load fields = option_map (paired Load) (two_numbers fields)
+call_for (keyword.Alone k) fields = alone_call k fields
+call_for (keyword.OfHead k) fields = option_map (head_call k) (one_number fields)
+call_for (keyword.OfHeadNumber k) fields = option_map (λ p. head_number_call k p.0 p.1) (two_numbers fields)
+call_for (keyword.OfBytes k) fields = option_map (bytes_call k) (one_buffer fields)
+call_for (keyword.OfBytesNumber k) fields = option_map (λ p. bytes_number_call k p.0 p.1) (buffer_and_number fields)
 call_for keyword.Run fields = run_call fields
 call_for keyword.Two fields = two_call fields
-call_for keyword.Rest fields = option_map Rest (one_number fields)
-call_for keyword.Mark fields = option_map Mark (one_number fields)
-call_for keyword.Back fields = option_map (paired Back) (two_numbers fields)
-call_for keyword.Drop fields = option_map (paired Drop) (two_numbers fields)
-call_for keyword.Write fields = option_map Write (one_buffer fields)
-call_for keyword.Check fields = option_map (paired Check) (buffer_and_number fields)
-call_for keyword.Lookup fields = option_map (paired Lookup) (buffer_and_number fields)
-call_for keyword.Head fields = option_map Head (one_number fields)
-call_for keyword.Check1 fields = option_map (paired Check1) (buffer_and_number fields)
-call_for keyword.Lookup1 fields = option_map (paired Lookup1) (buffer_and_number fields)
-call_for keyword.Convert fields = convert_call fields
-call_for keyword.Count fields = option_map Count (one_number fields)
-call_for keyword.Begin fields = keyword_alone Begin fields
-call_for keyword.Take fields = option_map Take (one_buffer fields)
 call_for keyword.Tell fields = tell_call fields
-call_for keyword.Turn fields = keyword_alone Turn fields
-call_for keyword.Save fields = option_map Save (one_buffer fields)
-call_for keyword.Restore fields = option_map Restore (one_buffer fields)
+call_for keyword.Convert fields = convert_call fields
 
 -- an answer of `call_of`: none for a silent line
 abbrev pub Answer : Type 0 → Type 0
 Answer B = Result (Option (Call B)) BadLine
 
-abbrev pub with_keyword : Option Keyword → List (List ℕ) → Answer (List ℕ)
-with_keyword None fields = Err NoCall
-with_keyword (Some k) fields = elim (call_for k fields) [ None ↦ Err Words | Some call ↦ Ok (Some call) ]
+abbrev pub answer_for : Keyword → List (List ℕ) → Answer (List ℕ)
+answer_for k fields = elim (call_for k fields) [ None ↦ Err Words | Some call ↦ Ok (Some call) ]
 
 abbrev pub call_in : List (List ℕ) → Answer (List ℕ)
 call_in [] = Err NoCall
-call_in (word ∷ fields) = with_keyword (keyword_of word) fields
+call_in (word ∷ fields) = elim (keyword_of word) [ Err why ↦ Err why | Ok k ↦ answer_for k fields ]
 
--- an empty line and a comment are silent; 35 is `#`, 32 the space
+-- an empty line or a comment; 35 is `#`
+abbrev pub is_silent : List ℕ → Bool
+is_silent s = cond (ltb (length s) 1) true (eqb (get_or s 0 0) 35)
+
+-- 32 is the space
 abbrev pub call_of : List ℕ → Answer (List ℕ)
-call_of s = cond (ltb (length s) 1) (Ok None) (cond (eqb (get_or s 0 0) 35) (Ok None) (call_in (fields_of 32 s)))
+call_of s = cond (is_silent s) (Ok None) (call_in (fields_of 32 s))
 
 -- ---- the texts of what is lent
 

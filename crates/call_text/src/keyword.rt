@@ -1,62 +1,111 @@
-// The keywords, each of which is a line's first word.
+// The keywords, each of which is a line's first word. Those behind which the same words stand share an enum: what stands behind is read
+// for all of them at one place.
 
 ghost use Rattle.std.specs.Prelude.{◌≡◌};
-ghost use Rattle.call_text.specs.Keyword.{keyword_of};
+ghost use Rattle.form_text.specs.Name.{look_up};
+ghost use Rattle.call_text.specs.Keyword.{keyword_of, texts};
 
+use crate::line::BadLine;
+
+// Nothing stands behind it.
 #[derive(Clone, Copy)]
-pub enum Keyword {
-    Open,
-    Load,
-    Run,
-    Two,
+pub(crate) enum Alone {
+    Begin,
+    Turn,
+}
+
+// HEAD
+#[derive(Clone, Copy)]
+pub(crate) enum OfHead {
     Rest,
     Mark,
+    Head,
+    Count,
+}
+
+// HEAD ENTRY, HEAD MARK
+#[derive(Clone, Copy)]
+pub(crate) enum OfHeadNumber {
+    Load,
     Back,
     Drop,
+}
+
+// BYTES
+#[derive(Clone, Copy)]
+pub(crate) enum OfBytes {
+    Open,
     Write,
-    Check,
-    Lookup,
-    Head,
-    // The reader of edition 1 only.
-    Check1,
-    Lookup1,
-    Convert,
-    Count,
-    Begin,
     Take,
-    Tell,
-    Turn,
     Save,
     Restore,
 }
 
-// A match over the text of a line, whose first word names the call.
-pub fn keyword_of(s: &[u8]) -> Option<Keyword>
+// BYTES ENTRY
+#[derive(Clone, Copy)]
+pub(crate) enum OfBytesNumber {
+    Check,
+    Lookup,
+    // The reader of edition 1 only.
+    Check1,
+    Lookup1,
+}
+
+#[derive(Clone, Copy)]
+pub(crate) enum Keyword {
+    Alone(Alone),
+    OfHead(OfHead),
+    OfHeadNumber(OfHeadNumber),
+    OfBytes(OfBytes),
+    OfBytesNumber(OfBytesNumber),
+    // The rest have words of their own.
+    Run,
+    Two,
+    Tell,
+    Convert,
+}
+
+// They are tried in this order: first those that a job makes for each block of samples.
+const KEYWORDS: [(&[u8], Keyword); 22] = [
+    (b"run", Keyword::Run),
+    (b"two", Keyword::Two),
+    (b"turn", Keyword::Alone(Alone::Turn)),
+    (b"tell", Keyword::Tell),
+    (b"load", Keyword::OfHeadNumber(OfHeadNumber::Load)),
+    (b"rest", Keyword::OfHead(OfHead::Rest)),
+    (b"mark", Keyword::OfHead(OfHead::Mark)),
+    (b"back", Keyword::OfHeadNumber(OfHeadNumber::Back)),
+    (b"drop", Keyword::OfHeadNumber(OfHeadNumber::Drop)),
+    (b"open", Keyword::OfBytes(OfBytes::Open)),
+    (b"write", Keyword::OfBytes(OfBytes::Write)),
+    (b"begin", Keyword::Alone(Alone::Begin)),
+    (b"take", Keyword::OfBytes(OfBytes::Take)),
+    (b"save", Keyword::OfBytes(OfBytes::Save)),
+    (b"restore", Keyword::OfBytes(OfBytes::Restore)),
+    (b"head", Keyword::OfHead(OfHead::Head)),
+    (b"count", Keyword::OfHead(OfHead::Count)),
+    (b"check", Keyword::OfBytesNumber(OfBytesNumber::Check)),
+    (b"lookup", Keyword::OfBytesNumber(OfBytesNumber::Lookup)),
+    (b"check1", Keyword::OfBytesNumber(OfBytesNumber::Check1)),
+    (b"lookup1", Keyword::OfBytesNumber(OfBytesNumber::Lookup1)),
+    (b"convert", Keyword::Convert),
+];
+
+// What stands beside a name in a table.
+fn keyword_in(mut table: &[(&[u8], Keyword)], s: &[u8]) -> Option<Keyword>
+    ensures { result ≡ look_up s.now (texts table.entry.now) }
+{
+    while let [row, rest @ ..] = table {
+        if s == row.0 {
+            return Some(row.1);
+        }
+        table = rest;
+    }
+    None
+}
+
+pub(crate) fn keyword_of(s: &[u8]) -> Result<Keyword, BadLine>
     ensures { result ≡ keyword_of s.now }
 {
-    match s {
-        b"open" => Some(Keyword::Open),
-        b"load" => Some(Keyword::Load),
-        b"run" => Some(Keyword::Run),
-        b"two" => Some(Keyword::Two),
-        b"rest" => Some(Keyword::Rest),
-        b"mark" => Some(Keyword::Mark),
-        b"back" => Some(Keyword::Back),
-        b"drop" => Some(Keyword::Drop),
-        b"write" => Some(Keyword::Write),
-        b"check" => Some(Keyword::Check),
-        b"lookup" => Some(Keyword::Lookup),
-        b"head" => Some(Keyword::Head),
-        b"check1" => Some(Keyword::Check1),
-        b"lookup1" => Some(Keyword::Lookup1),
-        b"convert" => Some(Keyword::Convert),
-        b"count" => Some(Keyword::Count),
-        b"begin" => Some(Keyword::Begin),
-        b"take" => Some(Keyword::Take),
-        b"tell" => Some(Keyword::Tell),
-        b"turn" => Some(Keyword::Turn),
-        b"save" => Some(Keyword::Save),
-        b"restore" => Some(Keyword::Restore),
-        _ => None,
-    }
+    keyword_in(&KEYWORDS, s).ok_or(BadLine::NoCall)
 }

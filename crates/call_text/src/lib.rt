@@ -7,5 +7,4 @@ mod edition;
 mod keyword;
 mod line;
 
-pub use keyword::{Keyword, keyword_of};
 pub use line::{BadLine, Call, call_of};

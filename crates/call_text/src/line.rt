@@ -2,18 +2,19 @@
 
 ghost use Rattle.std.specs.Prelude.{◌≡◌, option_map, option_copied};
 ghost use Rattle.form_text.specs.Field.{fields_left};
-ghost use Rattle.call_text.specs.Line.{small_number, one_number, two_numbers, one_buffer, buffer_and_number, keyword_alone, tell_call, convert_call, run_call, two_call, call_for, call_of, text_pair, text_call, text_answer};
+ghost use Rattle.call_text.specs.Line.{small_number, one_number, two_numbers, one_buffer, buffer_and_number, tell_call, convert_call, run_call, two_call, alone_call, head_call, head_number_call, bytes_call, bytes_number_call, call_for, answer_for, is_silent, call_of, text_pair, text_call, text_answer};
 
 use crate::buffer::units_field;
 use crate::edition::edition_of;
-use crate::keyword::{Keyword, keyword_of};
+use crate::keyword::{Alone, Keyword, OfBytes, OfBytesNumber, OfHead, OfHeadNumber, keyword_of};
 use digits::number_of;
 use form_text::{Fields, form_of};
 use runs::RunForm;
 use sheets::Edition;
 
 // What a line asks for. A buffer or a sheet, of the type B, is the field that has its text: `digits::units` reads it.
-#[derive(Clone, Copy)]
+// No Copy: nothing copies a call, and of all that is proved here a derived Clone of so many cases would cost the most.
+#[derive(Drop)]
 pub enum Call<B> {
     Open(B),
     Load {
@@ -95,14 +96,6 @@ fn small_number(s: &[u8]) -> Option<u16>
 }
 
 // Each reader below has words of its own behind the keyword: one for any two words would be told how each is read, and be no shorter.
-
-// Not a word: the keyword alone is the call.
-fn keyword_alone<'a>(call: Call<&'a [u8]>, fields: Fields<'a>) -> Option<Call<&'a [u8]>>
-    ensures { option_map text_call result ≡ keyword_alone (text_call call.entry) (fields_left fields.entry) }
-{
-    fields.end()?;
-    Some(call)
-}
 
 // HEAD
 fn one_number(fields: Fields<'_>) -> Option<usize>
@@ -187,66 +180,105 @@ fn two_call<'a>(mut fields: Fields<'a>) -> Option<Call<&'a [u8]>>
     })
 }
 
+// The calls of the keywords behind which the same words stand.
+
+fn alone_call<'a>(keyword: Alone, fields: Fields<'a>) -> Option<Call<&'a [u8]>>
+    ensures { option_map text_call result ≡ alone_call keyword (fields_left fields.entry) }
+{
+    fields.end()?;
+    match keyword {
+        Alone::Begin => Some(Call::Begin),
+        Alone::Turn => Some(Call::Turn),
+    }
+}
+
+fn head_call<'a>(keyword: OfHead, head: usize) -> Call<&'a [u8]>
+    ensures { text_call result ≡ head_call keyword head }
+{
+    match keyword {
+        OfHead::Rest => Call::Rest(head),
+        OfHead::Mark => Call::Mark(head),
+        OfHead::Head => Call::Head(head),
+        OfHead::Count => Call::Count(head),
+    }
+}
+
+fn head_number_call<'a>(keyword: OfHeadNumber, head: usize, n: usize) -> Call<&'a [u8]>
+    ensures { text_call result ≡ head_number_call keyword head n }
+{
+    match keyword {
+        OfHeadNumber::Load => Call::Load { head, entry: n },
+        OfHeadNumber::Back => Call::Back { head, mark: n },
+        OfHeadNumber::Drop => Call::Drop { head, mark: n },
+    }
+}
+
+fn bytes_call<'a>(keyword: OfBytes, bytes: &'a [u8]) -> Call<&'a [u8]>
+    ensures { text_call result ≡ bytes_call keyword bytes.now }
+{
+    match keyword {
+        OfBytes::Open => Call::Open(bytes),
+        OfBytes::Write => Call::Write(bytes),
+        OfBytes::Take => Call::Take(bytes),
+        OfBytes::Save => Call::Save(bytes),
+        OfBytes::Restore => Call::Restore(bytes),
+    }
+}
+
+fn bytes_number_call<'a>(keyword: OfBytesNumber, sheet: &'a [u8], entry: usize) -> Call<&'a [u8]>
+    ensures { text_call result ≡ bytes_number_call keyword sheet.now entry }
+{
+    match keyword {
+        OfBytesNumber::Check => Call::Check { sheet, entry },
+        OfBytesNumber::Lookup => Call::Lookup { sheet, entry },
+        OfBytesNumber::Check1 => Call::Check1 { sheet, entry },
+        OfBytesNumber::Lookup1 => Call::Lookup1 { sheet, entry },
+    }
+}
+
 fn call_for<'a>(keyword: Keyword, fields: Fields<'a>) -> Option<Call<&'a [u8]>>
     ensures { option_map text_call result ≡ call_for keyword (fields_left fields.entry) }
 {
-    let call = match keyword {
-        Keyword::Open => Call::Open(one_buffer(fields)?),
-        Keyword::Load => {
-            let (head, entry) = two_numbers(fields)?;
-            Call::Load { head, entry }
+    match keyword {
+        Keyword::Alone(keyword) => alone_call(keyword, fields),
+        Keyword::OfHead(keyword) => Some(head_call(keyword, one_number(fields)?)),
+        Keyword::OfHeadNumber(keyword) => {
+            let (head, n) = two_numbers(fields)?;
+            Some(head_number_call(keyword, head, n))
         }
-        Keyword::Run => run_call(fields)?,
-        Keyword::Two => two_call(fields)?,
-        Keyword::Rest => Call::Rest(one_number(fields)?),
-        Keyword::Mark => Call::Mark(one_number(fields)?),
-        Keyword::Back => {
-            let (head, mark) = two_numbers(fields)?;
-            Call::Back { head, mark }
-        }
-        Keyword::Drop => {
-            let (head, mark) = two_numbers(fields)?;
-            Call::Drop { head, mark }
-        }
-        Keyword::Write => Call::Write(one_buffer(fields)?),
-        Keyword::Check => {
+        Keyword::OfBytes(keyword) => Some(bytes_call(keyword, one_buffer(fields)?)),
+        Keyword::OfBytesNumber(keyword) => {
             let (sheet, entry) = buffer_and_number(fields)?;
-            Call::Check { sheet, entry }
+            Some(bytes_number_call(keyword, sheet, entry))
         }
-        Keyword::Lookup => {
-            let (sheet, entry) = buffer_and_number(fields)?;
-            Call::Lookup { sheet, entry }
-        }
-        Keyword::Head => Call::Head(one_number(fields)?),
-        Keyword::Check1 => {
-            let (sheet, entry) = buffer_and_number(fields)?;
-            Call::Check1 { sheet, entry }
-        }
-        Keyword::Lookup1 => {
-            let (sheet, entry) = buffer_and_number(fields)?;
-            Call::Lookup1 { sheet, entry }
-        }
-        Keyword::Convert => convert_call(fields)?,
-        Keyword::Count => Call::Count(one_number(fields)?),
-        Keyword::Begin => keyword_alone(Call::Begin, fields)?,
-        Keyword::Take => Call::Take(one_buffer(fields)?),
-        Keyword::Tell => tell_call(fields)?,
-        Keyword::Turn => keyword_alone(Call::Turn, fields)?,
-        Keyword::Save => Call::Save(one_buffer(fields)?),
-        Keyword::Restore => Call::Restore(one_buffer(fields)?),
-    };
-    Some(call)
+        Keyword::Run => run_call(fields),
+        Keyword::Two => two_call(fields),
+        Keyword::Tell => tell_call(fields),
+        Keyword::Convert => convert_call(fields),
+    }
+}
+
+fn answer_for<'a>(keyword: Keyword, fields: Fields<'a>) -> Result<Option<Call<&'a [u8]>>, BadLine>
+    ensures { text_answer result ≡ answer_for keyword (fields_left fields.entry) }
+{
+    let call = call_for(keyword, fields).ok_or(BadLine::Words)?;
+    Ok(Some(call))
+}
+
+// An empty line or a comment.
+fn is_silent(line: &[u8]) -> bool
+    ensures { result ≡ is_silent line.now }
+{
+    line.is_empty() || line[0] == b'#'
 }
 
 pub fn call_of(line: &[u8]) -> Result<Option<Call<&[u8]>>, BadLine>
     ensures { text_answer result ≡ call_of line.now }
 {
-    if line.is_empty() || line[0] == b'#' {
+    if is_silent(line) {
         return Ok(None);
     }
     let mut fields = Fields::of(line, b' ');
     let word = fields.next().ok_or(BadLine::NoCall)?;
-    let keyword = keyword_of(word).ok_or(BadLine::NoCall)?;
-    let call = call_for(keyword, fields).ok_or(BadLine::Words)?;
-    Ok(Some(call))
+    answer_for(keyword_of(word)?, fields)
 }
