@@ -3,12 +3,13 @@ use Rattle.std.specs.Prelude.{ℕ, List, [], ◌∷◌, Result, map, ok_or, code
 use Rattle.std.proofs.Common.{Bor}
 use Rattle.form_text.specs.Name.{look_up}
 use Rattle.call_text.specs.declared.keyword.Keyword.{Keyword}
-use Rattle.call_text.specs.declared.keyword.Keyword.TheVariants.{Alone, OfHead, OfHeadNumber, OfBytes, OfBytesNumber, Run, Two, Tell, Convert}
+use Rattle.call_text.specs.declared.keyword.Keyword.TheVariants.{Alone, OfHead, OfHeadNumber, OfBytes, OfBytesNumber, OfTwoBytes, Run, Two, Tell, Convert}
 use Rattle.call_text.specs.declared.keyword.Alone.TheVariants.{Begin, Turn}
 use Rattle.call_text.specs.declared.keyword.OfHead.TheVariants.{Rest, Mark, Head, Count}
 use Rattle.call_text.specs.declared.keyword.OfHeadNumber.TheVariants.{Load, Back, Drop}
 use Rattle.call_text.specs.declared.keyword.OfBytes.TheVariants.{Open, Write, Take, Save, Restore}
 use Rattle.call_text.specs.declared.keyword.OfBytesNumber.TheVariants.{Check, Lookup, Check1, Lookup1}
+use Rattle.call_text.specs.declared.keyword.OfTwoBytes.TheVariants.{Planes, Samples}
 use Rattle.call_text.specs.declared.line.BadLine.{BadLine}
 use Rattle.call_text.specs.declared.line.BadLine.TheVariants.{NoCall}
 
@@ -36,6 +37,8 @@ keywords =
     ∷ (codes "check1", OfBytesNumber Check1)
     ∷ (codes "lookup1", OfBytesNumber Lookup1)
     ∷ (codes "convert", Convert)
+    ∷ (codes "planes", OfTwoBytes Planes)
+    ∷ (codes "samples", OfTwoBytes Samples)
     ∷ []
 
 abbrev pub keyword_of : List ℕ → Result Keyword BadLine

@@ -19,8 +19,10 @@ use Rattle.call_text.specs.declared.keyword.OfBytes.{OfBytes}
 use Rattle.call_text.specs.declared.keyword.OfBytes.TheVariants as of_bytes
 use Rattle.call_text.specs.declared.keyword.OfBytesNumber.{OfBytesNumber}
 use Rattle.call_text.specs.declared.keyword.OfBytesNumber.TheVariants as of_bytes_number
+use Rattle.call_text.specs.declared.keyword.OfTwoBytes.{OfTwoBytes}
+use Rattle.call_text.specs.declared.keyword.OfTwoBytes.TheVariants as of_two_bytes
 use Rattle.call_text.specs.declared.line.Call.{Call}
-use Rattle.call_text.specs.declared.line.Call.TheVariants.{Open, Load, Run, Two, Rest, Mark, Back, Drop, Write, Check, Lookup, Head, Check1, Lookup1, Convert, Count, Begin, Take, Tell, Turn, Save, Restore}
+use Rattle.call_text.specs.declared.line.Call.TheVariants.{Open, Load, Run, Two, Rest, Mark, Back, Drop, Write, Check, Lookup, Head, Check1, Lookup1, Convert, Count, Begin, Take, Tell, Turn, Save, Restore, Planes, Samples}
 use Rattle.call_text.specs.declared.line.BadLine.{BadLine}
 use Rattle.call_text.specs.declared.line.BadLine.TheVariants.{NoCall, Words}
 
@@ -60,6 +62,11 @@ one_buffer _ = None
 abbrev pub buffer_and_number : List (List ℕ) → Option (List ℕ × ℕ)
 buffer_and_number (b ∷ n ∷ []) = of_two (λ b n. (b, n)) (bytes_field b) (number_of n)
 buffer_and_number _ = None
+
+-- BYTES BYTES
+abbrev pub two_buffers : List (List ℕ) → Option (List ℕ × List ℕ)
+two_buffers (i ∷ o ∷ []) = of_two (λ i o. (i, o)) (bytes_field i) (bytes_field o)
+two_buffers _ = None
 
 -- EDITION BYTES BYTES
 abbrev pub convert_call : List (List ℕ) → Option CallOf
@@ -107,6 +114,10 @@ bytes_number_call of_bytes_number.Lookup b n = Lookup b n
 bytes_number_call of_bytes_number.Check1 b n = Check1 b n
 bytes_number_call of_bytes_number.Lookup1 b n = Lookup1 b n
 
+abbrev pub two_bytes_call : OfTwoBytes → List ℕ → List ℕ → CallOf
+two_bytes_call of_two_bytes.Planes i o = Planes i o
+two_bytes_call of_two_bytes.Samples i o = Samples i o
+
 -- what the fields behind a keyword make
 abbrev pub call_for : Keyword → List (List ℕ) → Option CallOf
 call_for (keyword.Alone k) fields = alone_call k fields
@@ -114,6 +125,7 @@ call_for (keyword.OfHead k) fields = option_map (head_call k) (one_number fields
 call_for (keyword.OfHeadNumber k) fields = option_map (λ p. head_number_call k p.0 p.1) (two_numbers fields)
 call_for (keyword.OfBytes k) fields = option_map (bytes_call k) (one_buffer fields)
 call_for (keyword.OfBytesNumber k) fields = option_map (λ p. bytes_number_call k p.0 p.1) (buffer_and_number fields)
+call_for (keyword.OfTwoBytes k) fields = option_map (λ p. two_bytes_call k p.0 p.1) (two_buffers fields)
 call_for keyword.Run fields = run_call fields
 call_for keyword.Two fields = two_call fields
 call_for keyword.Tell fields = tell_call fields
@@ -143,6 +155,9 @@ call_of s = cond (is_silent s) (Ok None) (call_in (fields_of 32 s))
 abbrev pub text_pair : Bor (List ℕ) × ℕ → List ℕ × ℕ
 text_pair p = (p.0.now, p.1)
 
+abbrev pub text_buffers : Bor (List ℕ) × Bor (List ℕ) → List ℕ × List ℕ
+text_buffers p = (p.0.now, p.1.now)
+
 abbrev pub text_call : Call (Bor (List ℕ)) → CallOf
 text_call (Open s) = Open s.now
 text_call (Load h e) = Load h e
@@ -166,6 +181,8 @@ text_call (Tell h n) = Tell h n
 text_call Turn = Turn
 text_call (Save o) = Save o.now
 text_call (Restore b) = Restore b.now
+text_call (Planes s o) = Planes s.now o.now
+text_call (Samples p o) = Samples p.now o.now
 
 abbrev pub text_answer : Answer (Bor (List ℕ)) → Answer (List ℕ)
 text_answer (Ok call) = Ok (option_map text_call call)

@@ -51,6 +51,13 @@ pub(crate) enum OfBytesNumber {
     Lookup1,
 }
 
+// BYTES BYTES
+#[derive(Clone, Copy)]
+pub(crate) enum OfTwoBytes {
+    Planes,
+    Samples,
+}
+
 #[derive(Clone, Copy)]
 pub(crate) enum Keyword {
     Alone(Alone),
@@ -58,6 +65,7 @@ pub(crate) enum Keyword {
     OfHeadNumber(OfHeadNumber),
     OfBytes(OfBytes),
     OfBytesNumber(OfBytesNumber),
+    OfTwoBytes(OfTwoBytes),
     // The rest have words of their own.
     Run,
     Two,
@@ -66,7 +74,7 @@ pub(crate) enum Keyword {
 }
 
 // They are tried in this order: first those that a job makes for each block of samples.
-const KEYWORDS: [(&[u8], Keyword); 22] = [
+const KEYWORDS: [(&[u8], Keyword); 24] = [
     (b"run", Keyword::Run),
     (b"two", Keyword::Two),
     (b"turn", Keyword::Alone(Alone::Turn)),
@@ -89,6 +97,8 @@ const KEYWORDS: [(&[u8], Keyword); 22] = [
     (b"check1", Keyword::OfBytesNumber(OfBytesNumber::Check1)),
     (b"lookup1", Keyword::OfBytesNumber(OfBytesNumber::Lookup1)),
     (b"convert", Keyword::Convert),
+    (b"planes", Keyword::OfTwoBytes(OfTwoBytes::Planes)),
+    (b"samples", Keyword::OfTwoBytes(OfTwoBytes::Samples)),
 ];
 
 // What stands beside a name in a table.

@@ -2,11 +2,13 @@
 
 ghost use Rattle.std.specs.Prelude.{◌≡◌, option_map, option_copied};
 ghost use Rattle.form_text.specs.Field.{fields_left};
-ghost use Rattle.call_text.specs.Line.{small_number, one_number, two_numbers, one_buffer, buffer_and_number, tell_call, convert_call, run_call, two_call, alone_call, head_call, head_number_call, bytes_call, bytes_number_call, call_for, answer_for, is_silent, call_of, text_pair, text_call, text_answer};
+ghost use Rattle.call_text.specs.Line.{small_number, one_number, two_numbers, one_buffer, buffer_and_number, two_buffers, tell_call, convert_call, run_call, two_call, alone_call, head_call, head_number_call, bytes_call, bytes_number_call, two_bytes_call, call_for, answer_for, is_silent, call_of, text_pair, text_buffers, text_call, text_answer};
 
 use crate::buffer::units_field;
 use crate::edition::edition_of;
-use crate::keyword::{Alone, Keyword, OfBytes, OfBytesNumber, OfHead, OfHeadNumber, keyword_of};
+use crate::keyword::{
+    Alone, Keyword, OfBytes, OfBytesNumber, OfHead, OfHeadNumber, OfTwoBytes, keyword_of,
+};
 use digits::number_of;
 use form_text::{Fields, form_of};
 use runs::RunForm;
@@ -77,6 +79,14 @@ pub enum Call<B> {
     Turn,
     Save(B),
     Restore(B),
+    Planes {
+        samples: B,
+        output: B,
+    },
+    Samples {
+        planes: B,
+        output: B,
+    },
 }
 
 // Why a line is no call.
@@ -136,6 +146,14 @@ fn buffer_and_number<'a>(fields: Fields<'a>) -> Option<(&'a [u8], usize)>
 {
     let (b, n) = fields.two()?;
     Some((units_field::<u8>(b)?, number_of(n)?))
+}
+
+// BYTES BYTES
+fn two_buffers<'a>(fields: Fields<'a>) -> Option<(&'a [u8], &'a [u8])>
+    ensures { option_map text_buffers result ≡ two_buffers (fields_left fields.entry) }
+{
+    let (input, output) = fields.two()?;
+    Some((units_field::<u8>(input)?, units_field::<u8>(output)?))
 }
 
 // EDITION BYTES BYTES
@@ -236,6 +254,21 @@ fn bytes_number_call<'a>(keyword: OfBytesNumber, sheet: &'a [u8], entry: usize) 
     }
 }
 
+fn two_bytes_call<'a>(keyword: OfTwoBytes, input: &'a [u8], output: &'a [u8]) -> Call<&'a [u8]>
+    ensures { text_call result ≡ two_bytes_call keyword input.now output.now }
+{
+    match keyword {
+        OfTwoBytes::Planes => Call::Planes {
+            samples: input,
+            output,
+        },
+        OfTwoBytes::Samples => Call::Samples {
+            planes: input,
+            output,
+        },
+    }
+}
+
 fn call_for<'a>(keyword: Keyword, fields: Fields<'a>) -> Option<Call<&'a [u8]>>
     ensures { option_map text_call result ≡ call_for keyword (fields_left fields.entry) }
 {
@@ -250,6 +283,10 @@ fn call_for<'a>(keyword: Keyword, fields: Fields<'a>) -> Option<Call<&'a [u8]>>
         Keyword::OfBytesNumber(keyword) => {
             let (sheet, entry) = buffer_and_number(fields)?;
             Some(bytes_number_call(keyword, sheet, entry))
+        }
+        Keyword::OfTwoBytes(keyword) => {
+            let (input, output) = two_buffers(fields)?;
+            Some(two_bytes_call(keyword, input, output))
         }
         Keyword::Run => run_call(fields),
         Keyword::Two => two_call(fields),

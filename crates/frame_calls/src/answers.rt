@@ -87,6 +87,20 @@ fn convert(wanted: Edition, sheet: &[u8], output: &[u8], out: &mut Output) {
     put_written(out, answer, output.as_slice());
 }
 
+fn planes(samples: &[u8], output: &[u8], out: &mut Output) {
+    let samples = units_of::<u8, BYTES>(samples);
+    let mut output = units_of::<u8, BYTES>(output);
+    let answer = planes::samples_to_planes(samples.as_slice(), output.as_mut_slice());
+    put_written(out, answer, output.as_slice());
+}
+
+fn samples(planes: &[u8], output: &[u8], out: &mut Output) {
+    let planes = units_of::<u8, BYTES>(planes);
+    let mut output = units_of::<u8, BYTES>(output);
+    let answer = planes::planes_to_samples(planes.as_slice(), output.as_mut_slice());
+    put_written(out, answer, output.as_slice());
+}
+
 // ---- the calls over a sheet, which touch no frame. No plainer as one, which would be told what is asked and how the answer is put.
 
 fn check(sheet: &[u8], entry: usize, out: &mut Output) {
@@ -158,6 +172,8 @@ fn of_call(call: Call<&[u8]>, frame: &mut Frame, out: &mut Output) {
             out,
             frame.restore_heads(units_of::<u8, BYTES>(bytes).as_slice()),
         ),
+        Call::Planes { samples, output } => planes(samples, output, out),
+        Call::Samples { planes, output } => samples(planes, output, out),
     }
 }
 
