@@ -1,6 +1,6 @@
-// The filters for Rust and C to call: a function for each method of the six types. filter_fields says how a filter is an array of
-// floats and what the numbers of a mode and an approximation name. A function that can be refused answers 0 or the refusal's number,
-// and a refused one changes nothing.
+// The filters for Rust and C to call: a function for each method of the six types, and with them samples in planes. filter_fields says how a
+// filter is an array of floats and what the numbers of a mode and an approximation name. A function that can be refused answers 0 or the
+// refusal's number, and a refused one changes nothing.
 // C has no Result and no enum of ours: so the numbers, the arrays and the parameters one by one, which are the source's. Each function has
 // its own name and clause, as filter_exports_c exports it; what those that are alike but for the type do stands once, below.
 #![tactic(auto)]
@@ -16,6 +16,7 @@ pub mod dc_blocker_calls;
 pub mod modified_svf_calls;
 pub mod naive_svf_calls;
 pub mod one_pole_calls;
+pub mod planes_calls;
 pub mod svf_calls;
 
 use filter_core::{FilterMode, FrequencyApproximation, Refusal, number_in};

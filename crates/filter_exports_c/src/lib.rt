@@ -8,4 +8,5 @@ pub mod dc_blocker_calls;
 pub mod modified_svf_calls;
 pub mod naive_svf_calls;
 pub mod one_pole_calls;
+pub mod planes_calls;
 pub mod svf_calls;

@@ -1,0 +1,4 @@
+pub mod Grid
+pub mod Planes
+pub mod Rows
+pub mod RoundTrip
