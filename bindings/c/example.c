@@ -1,4 +1,4 @@
-/* Worked examples of document 01 from C, the refusals, and sheets read. Ends with 1 at the first that is not as it must be. */
+/* Worked examples of document 01 from C, the refusals, samples in planes, and sheets read. Ends with 1 at the first that is not as it must be. */
 #include "motif_filters.h"
 #include "motif_sheets.h"
 
@@ -71,6 +71,38 @@ static void takes_no_buffer(void) {
     check("modified_svf_process, NULL", modified_svf_process(state, NULL, 0, NULL, 0, MOTIF_LOW_PASS) == MOTIF_OK);
     check("crossover_svf_process, NULL", crossover_svf_process(state, NULL, 0, NULL, 0, MOTIF_LOW_PASS) == MOTIF_OK);
     check("all fields as they were", memcmp(state, eight, sizeof eight) == 0);
+}
+
+/* Three samples, a signalling NaN among them, as a trace is stored and read again. */
+static void arranges_planes(void) {
+    const uint8_t samples[12] = {0xdb, 0x0f, 0x49, 0x40, 0x45, 0x23, 0x81, 0x7f, 0x01, 0x00, 0x00, 0x80};
+    const uint8_t planes[12] = {0xdb, 0x45, 0x01, 0x0f, 0x23, 0x00, 0x49, 0x81, 0x00, 0x40, 0x7f, 0x80};
+    const uint8_t before[14] = {7, 7, 7, 7, 7, 7, 7, 7, 7, 7, 7, 7, 7, 7};
+    uint8_t out[14];
+    memcpy(out, before, 14);
+    check("planes", samples_to_planes(samples, 12, out, 14) == MOTIF_OK && memcmp(out, planes, 12) == 0);
+    check("places after the planes", out[12] == 7 && out[13] == 7);
+    memcpy(out, before, 14);
+    check("samples", planes_to_samples(planes, 12, out, 14) == MOTIF_OK && memcmp(out, samples, 12) == 0);
+    check("places after the samples", out[12] == 7 && out[13] == 7);
+
+    /* refused: the output stays */
+    memcpy(out, before, 14);
+    check("a byte too few", samples_to_planes(samples, 11, out, 14) == MOTIF_PARTIAL && planes_to_samples(planes, 11, out, 14) == MOTIF_PARTIAL);
+    check("partial before short", samples_to_planes(samples, 11, out, 10) == MOTIF_PARTIAL && planes_to_samples(planes, 11, NULL, 0) == MOTIF_PARTIAL);
+    check("a place too few", samples_to_planes(samples, 12, out, 11) == MOTIF_SHORT && planes_to_samples(planes, 12, out, 11) == MOTIF_SHORT);
+    check("no samples", samples_to_planes(NULL, 0, NULL, 0) == MOTIF_OK && planes_to_samples(NULL, 0, out, 14) == MOTIF_OK);
+    check("the output as it was", memcmp(out, before, 14) == 0);
+
+    /* where each byte goes, and back */
+    uint8_t trace[400], arranged[400], back[400];
+    for (size_t k = 0; k < sizeof trace; k++) trace[k] = (uint8_t)(k * k + k / 5);
+    for (size_t n = 0; n <= 100; n++) {
+        int holds = samples_to_planes(trace, 4 * n, arranged, sizeof arranged) == MOTIF_OK && planes_to_samples(arranged, 4 * n, back, 4 * n) == MOTIF_OK;
+        for (size_t i = 0; i < n; i++)
+            for (size_t p = 0; p < 4; p++) holds &= arranged[p * n + i] == trace[4 * i + p];
+        check("a trace in planes and back", holds && memcmp(back, trace, 4 * n) == 0);
+    }
 }
 
 /* Two entries, a DC blocker and a one-pole with f = 0.25 by the approximation 4, which edition 2 alone has. */
@@ -147,6 +179,7 @@ int main(void) {
     for (size_t k = 0; k < sizeof unknown / sizeof unknown[0]; k++) refuses(unknown[k], unknown[k]);
     refuses(4, 5);
     takes_no_buffer();
+    arranges_planes();
     reads_a_sheet();
 
     /* Exact below 0: the negative of the value at -f, down to -0.497 */
@@ -187,6 +220,6 @@ int main(void) {
     crossover_svf_set_f_fq(crossover, 0.5f, 0.5f);
     check("S9", crossover_svf_process(crossover, impulse, 1, one, 1, MOTIF_HIGH_PASS) == MOTIF_OK && one[0] == 0.25f);
 
-    printf("the filters and the sheet reader from C: %d checks hold\n", checks);
+    printf("the filters, samples in planes and the sheet reader from C: %d checks hold\n", checks);
     return 0;
 }

@@ -1,6 +1,6 @@
 /*
- * The six filters of filter.rs, proved in Rattle, for C on x86-64 with the System V ABI, as on Linux. Link
- * target/staticlib/libfilter_exports.a, which `tools/archive` proves and writes.
+ * The six filters of filter.rs and samples in planes, proved in Rattle, for C on x86-64 with the System V ABI, as on Linux. Link
+ * target/staticlib/libfilter_exports.a, which `tools/archive` proves and writes. The processor must have SSE 4.2 (x86-64-v2).
  *
  * A filter is an array of floats, its fields, in the order that its group below names. `_new` writes a fresh one. Every call reads and
  * writes the arrays that it is lent and keeps nothing else.
@@ -15,6 +15,7 @@
  * - `state` is lent as a buffer is: no two of the arrays and outputs that one call is lent overlap. So no form but dc_blocker_process works
  *   in place, and svf_set does not take one array twice.
  * - Every place holds a float. An output and the array of a `_new` are only written, so they may be uninitialized.
+ * - The bytes of samples in planes hold anything, and stand at any address.
  * - The floating-point flags are as a program starts: rounding to nearest, subnormal numbers kept. With others, as flush-to-zero, the
  *   numbers are not the proved ones.
  *
@@ -40,6 +41,8 @@ enum {
     MOTIF_OK = 0,
     MOTIF_STEP = 10,      /* a stride or a decimation of 0 */
     MOTIF_FREQUENCY = 11, /* MOTIF_EXACT with a frequency below -0.497; that number itself and a NaN are not below */
+    MOTIF_SHORT = 12,     /* an output of fewer bytes than the input */
+    MOTIF_PARTIAL = 19,   /* an input that ends within a sample */
     MOTIF_UNKNOWN = 100   /* a number that names no mode, or no approximation */
 };
 
@@ -216,6 +219,21 @@ void crossover_svf_set_f_fq(float state[8], float f, float fq);
 
 /* A buffer of samples. Refused: MOTIF_UNKNOWN. */
 uint8_t crossover_svf_process(float state[8], const float *in, size_t in_length, float *out, size_t out_length, uint32_t mode);
+
+/* ---- Samples in planes, to store a trace
+ *
+ * Samples are words of four bytes, low byte first, as a float stands in memory. In planes the lowest bytes of all samples come first, then
+ * all second, all third and all highest, each plane in the samples' order. The bytes are moved and not read as numbers, so each call undoes
+ * the other on any bytes, NaNs included.
+ *
+ * The whole input is arranged or nothing: an accepted call has written as many bytes as the input has. Later places keep their contents.
+ * Refused: MOTIF_PARTIAL, then MOTIF_SHORT. An input of no bytes is accepted. */
+
+/* Samples into their planes. */
+uint8_t samples_to_planes(const uint8_t *samples, size_t samples_length, uint8_t *output, size_t output_length);
+
+/* Planes into the samples that they are of. */
+uint8_t planes_to_samples(const uint8_t *planes, size_t planes_length, uint8_t *output, size_t output_length);
 
 #ifdef __cplusplus
 }

@@ -145,4 +145,17 @@ extern "C" {
         out_len: usize,
         mode: u32,
     ) -> u8;
+
+    pub fn samples_to_planes(
+        samples: *const u8,
+        samples_len: usize,
+        output: *mut u8,
+        output_len: usize,
+    ) -> u8;
+    pub fn planes_to_samples(
+        planes: *const u8,
+        planes_len: usize,
+        output: *mut u8,
+        output_len: usize,
+    ) -> u8;
 }

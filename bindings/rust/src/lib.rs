@@ -11,6 +11,8 @@
 //! | [`OnePole::tan`], [`OnePole::set_f`], [`Svf::set_f_q`], [`NaiveSvf::set_f_q`] | [`Refusal::Frequency`]: `Exact` with f below -0.497 |
 //! | [`Svf::process_stride_buffer`], [`NaiveSvf::process_decimate`] | [`Refusal::Step`]: a step of 0 |
 //!
+//! The module [`planes`] arranges samples for storage; what its calls refuse stands there.
+//!
 //! A buffer form works over the shortest of the buffers that it is lent. Later places keep their contents.
 //!
 //! ```
@@ -32,6 +34,7 @@
 pub mod ffi;
 pub mod filter;
 mod filters;
+pub mod planes;
 mod refusal;
 
 pub use filters::{

@@ -15,6 +15,10 @@ pub enum Refusal {
     Step,
     /// 11: `Exact` with a frequency below -0.497, which itself is taken.
     Frequency,
+    /// 12: an output of fewer bytes than the input.
+    Short,
+    /// 19: an input that ends within a sample: its length is not a multiple of 4.
+    Partial,
 }
 
 impl Refusal {
@@ -23,6 +27,8 @@ impl Refusal {
         match self {
             Self::Step => 10,
             Self::Frequency => 11,
+            Self::Short => 12,
+            Self::Partial => 19,
         }
     }
 
@@ -33,6 +39,8 @@ impl Refusal {
             0 => Ok(()),
             10 => Err(Self::Step),
             11 => Err(Self::Frequency),
+            12 => Err(Self::Short),
+            19 => Err(Self::Partial),
             // 100 names an unknown mode or approximation, which the enums cannot hold.
             _ => unreachable!("refusal {number}"),
         }
@@ -44,6 +52,8 @@ impl fmt::Display for Refusal {
         match self {
             Self::Step => write!(f, "step: a stride or a decimation of 0"),
             Self::Frequency => write!(f, "frequency: Exact with a frequency below -0.497"),
+            Self::Short => write!(f, "short: an output of fewer bytes than the input"),
+            Self::Partial => write!(f, "partial: an input that ends within a sample"),
         }
     }
 }

@@ -1,4 +1,5 @@
-//! What the comparison, the sample and the benchmark share: numbers to try, and equality of bits with all NaNs as one.
+//! What the comparison, the sample, the benchmarks and the traces share: numbers to try, the leaf of crates/outline, and equality of bits
+//! with all NaNs as one.
 
 /// The source's types, and ours.
 pub use motif_filters as proved;
@@ -20,6 +21,19 @@ pub fn frequency_refusal(f: f32, approximation: oracle::FrequencyApproximation) 
     } else {
         0
     }
+}
+
+/// The leaf of crates/outline, every x and every y: the two lists in its text.
+pub fn leaf() -> [Vec<f32>; 2] {
+    let text = include_str!("../../../crates/outline/src/main.rt");
+    ["LEAF_X", "LEAF_Y"].map(|name| {
+        let list = text.split(&format!("const {name}: [f32; 16] = [")).nth(1);
+        let list = list.and_then(|rest| rest.split(']').next()).expect(name);
+        let words = list.split(',').map(str::trim).filter(|w| !w.is_empty());
+        let line: Vec<f32> = words.map(|w| w.parse().expect(name)).collect();
+        assert_eq!(line.len(), 16);
+        line
+    })
 }
 
 /// A generator of Steele, Lea and Flood (splitmix64): the numbers depend on the seed alone.

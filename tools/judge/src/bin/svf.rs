@@ -2,7 +2,7 @@
 //! through a head of the frame. The sides take turns, 21 each after one that does not count; the answers of every turn are compared bit for bit, and
 //! a difference ends the program. `tools/bench --svf` builds what it needs and names the two programs, the one in C and the one in Rattle.
 
-use judge::{bits, oracle, proved, Numbers};
+use judge::{bits, leaf, oracle, proved, Numbers};
 use std::hint::black_box;
 use std::io::{Read, Write};
 use std::process::{Child, Command, Stdio};
@@ -137,20 +137,9 @@ fn middle(times: &mut [f64]) -> f64 {
     times[TURNS / 2]
 }
 
-/// The leaf of crates/outline: a list of that name in its text.
-fn drawn(name: &str) -> Vec<f32> {
-    let text = include_str!("../../../../crates/outline/src/main.rt");
-    let list = text.split(&format!("const {name}: [f32; 16] = [")).nth(1);
-    let list = list.and_then(|rest| rest.split(']').next()).expect(name);
-    let words = list.split(',').map(str::trim).filter(|w| !w.is_empty());
-    let line: Vec<f32> = words.map(|w| w.parse().expect(name)).collect();
-    assert_eq!(line.len(), 16);
-    line
-}
-
 /// Round and round: every x of the leaf, then every y.
 fn outline() -> Vec<f32> {
-    let (x, y) = (drawn("LEAF_X"), drawn("LEAF_Y"));
+    let [x, y] = leaf();
     let rounds = SAMPLES / 2 / x.len();
     [x.repeat(rounds), y.repeat(rounds)].concat()
 }
