@@ -1298,22 +1298,24 @@ fn fill(rows: &mut Vec<Row>, at: usize, wanted: usize) {
     rows.splice(at..at, vec![row; wanted.saturating_sub(there)]);
 }
 
-// Samples in planes and back, for the fixed list: two samples, none, every special word. Those are whole and cut by a byte, the outputs
-// longer, as long and too short.
+// Samples in planes and back, for the fixed list: two samples, none, every special word. The inputs are whole and cut within a sample, the
+// outputs longer, as long and too short.
 fn arranged_samples() -> String {
     let mut text = String::from(
         "\n# Samples in planes, and back.\n\
          planes 0000803F0000003F EEEEEEEEEEEEEEEEEE\n\
          samples 0000000080003F3F EEEEEEEEEEEEEEEEEE\n\
-         planes - -\nplanes - ee\nsamples - -\nsamples - ee\n",
+         planes - -\nplanes - ee\nplanes 00000000 -\nplanes 000000 -\n\
+         samples - -\nsamples - ee\nsamples 00000000 -\nsamples 000000 -\n",
     );
-    let samples: Vec<u8> = SPECIAL.iter().flat_map(|w| w.to_le_bytes()).collect();
+    let words = SPECIAL.iter().rev();
+    let samples: Vec<u8> = words.flat_map(|w| w.to_le_bytes()).collect();
     let mut planes = vec![0; samples.len()];
     planes::planes(&samples, &mut planes).expect("whole samples, and a place for each byte");
     for (call, input) in [("planes", &samples), ("samples", &planes)] {
-        for length in [input.len(), input.len() - 1, 4, 3, 1] {
+        for length in [input.len(), input.len() - 1, 8, 7, 6, 5] {
             let call = format!("{call} {}", hex(&input[..length]));
-            for places in [length + 1, length, length - 1, 0] {
+            for places in [length + 1, length, length - 1] {
                 text.push_str(&format!("{}\n", lend(&call, places)));
             }
         }
