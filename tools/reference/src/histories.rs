@@ -5,7 +5,8 @@ use crate::counts::Counts;
 use crate::filters::{word_of, Filter};
 use crate::lists::Frame;
 use crate::numbers::Numbers;
-use crate::text;
+use crate::planes::{self, Arrangement};
+use crate::text::{self, MOST_BYTES};
 use oracle::{EXACT_LOWEST, MIRRORED};
 
 pub fn hex(bytes: &[u8]) -> String {
@@ -51,6 +52,10 @@ const SPECIAL: [u32; 20] = [
 /// How many saved frames are kept to be restored.
 const KEPT: usize = 64;
 
+/// The two calls of 02 j; what the one writes, the other brings back.
+const ARRANGEMENTS: [(&str, Arrangement); 2] =
+    [("planes", planes::planes), ("samples", planes::samples)];
+
 pub struct Writer {
     numbers: Numbers,
     text: String,
@@ -59,6 +64,8 @@ pub struct Writer {
     favourites: Vec<u64>,
     // Frames that were saved in this history and in those before it.
     saved: Vec<Vec<Row>>,
+    /// How often what one of planes and samples wrote was brought back by the other, in all histories.
+    pub returned: u64,
 }
 
 impl Writer {
@@ -69,6 +76,7 @@ impl Writer {
             frame: Frame::fresh(false),
             favourites: Vec::new(),
             saved: Vec::new(),
+            returned: 0,
         }
     }
 
@@ -373,6 +381,55 @@ impl Writer {
             }
             _ => 1,
         }
+    }
+
+    // Samples as bytes, any NaN among them. Three in ten are cut within a sample.
+    fn sample_bytes(&mut self) -> Vec<u8> {
+        let n = match self.numbers.weighted(&[5, 57, 25, 4, 9]) {
+            0 => 0,
+            1 => 1 + self.numbers.below(8),
+            2 => 9 + self.numbers.below(56),
+            3 => 65 + self.numbers.below(958),
+            _ => 1024 - self.numbers.below(2),
+        };
+        let mut bytes: Vec<u8> = (0..n)
+            .flat_map(|_| self.sample_word().to_le_bytes())
+            .collect();
+        if self.numbers.percent(30) {
+            let cut = 1 + self.numbers.below(3) as usize;
+            bytes.truncate(bytes.len().saturating_sub(cut));
+        }
+        bytes
+    }
+
+    // Samples into planes or back. Half of what is written goes back to where it came from.
+    fn arrange(&mut self) -> u64 {
+        let first = self.numbers.below(2) as usize;
+        let input = self.sample_bytes();
+        let Some(written) = self.arranged(first, &input) else {
+            return 1;
+        };
+        if self.numbers.percent(50) {
+            return 1;
+        }
+        if self.arranged(1 - first, &written).is_some() {
+            self.returned += 1;
+        }
+        2
+    }
+
+    fn arranged(&mut self, which: usize, input: &[u8]) -> Option<Vec<u8>> {
+        let (name, by) = ARRANGEMENTS[which];
+        let mut out = self.output(input.len());
+        out.truncate(if self.numbers.percent(5) {
+            0
+        } else {
+            MOST_BYTES
+        });
+        self.line(&format!("{name} {} {}", hex(input), hex(&out)));
+        let length = by(input, &mut out).ok()?;
+        out.truncate(length);
+        Some(out)
     }
 
     fn begin(&mut self) {
@@ -697,7 +754,7 @@ impl Writer {
     }
 
     fn bad_line(&mut self) {
-        const BAD: [&str; 81] = [
+        const BAD: [&str; 95] = [
             "x",
             " ",
             "open",
@@ -779,6 +836,20 @@ impl Writer {
             "restore",
             "restore ee 0",
             "restores -",
+            "planes",
+            "planes -",
+            "planes - - -",
+            "planes 0 -",
+            "planes - 000",
+            "planes 0g -",
+            "planes  - -",
+            "plane - -",
+            "samples",
+            "samples -",
+            "samples - - 0",
+            "samples 0000000 -",
+            "samples - 0",
+            "sample - -",
         ];
         match self.numbers.weighted(&[90, 8, 1, 1]) {
             0 => {
@@ -802,7 +873,9 @@ impl Writer {
             }
             _ => {
                 let n = self.numbers.pick(&[4097usize, 5000]);
-                let line = format!("write {}", "00".repeat(n));
+                let call = self.numbers.pick(&["write", "planes -", "samples"]);
+                let behind = if call == "samples" { " -" } else { "" };
+                let line = format!("{call} {}{behind}", "00".repeat(n));
                 self.line(&line);
             }
         }
@@ -831,7 +904,7 @@ impl Writer {
         let head = self.head();
         match self.numbers.weighted(&[
             330, 130, 100, 60, 60, 35, 50, 40, 20, 20, 20, 20, 20, 20, 40, 5, 8, 6, 5, 4, 4, 6, 12,
-            8,
+            16, 8,
         ]) {
             0 => self.run(head, 1),
             1 => self.run(head, 2),
@@ -873,6 +946,7 @@ impl Writer {
             20 => return self.tellings(),
             21 => self.close(),
             22 => return self.restore(),
+            23 => return self.arrange(),
             _ => match self.numbers.weighted(&[80, 10, 9, 1]) {
                 0 => self.bad_line(),
                 1 => self.line(""),
@@ -1179,6 +1253,29 @@ fn standing(text: &str) -> Vec<Row> {
     writer.frame.rows()
 }
 
+/// Both rearrangements of every input of up to 64 bytes into every output of up to 72 places, a history for each length, and what was written
+/// given back to the other. Each byte of the two is another, so an answer shows for each of its places where the byte there is from.
+pub fn arrangements() -> impl Iterator<Item = Vec<u8>> {
+    const LONGEST: u8 = 64;
+    const MOST_PLACES: u8 = 72;
+    let [planes, samples] = ARRANGEMENTS;
+    (0..=LONGEST).map(move |length| {
+        let input: Vec<u8> = (0..length).collect();
+        let mut text = String::new();
+        for places in 0..=MOST_PLACES {
+            let lent: Vec<u8> = (0..places).map(|place| 0x80 + place).collect();
+            for ((name, by), (back, _)) in [(planes, samples), (samples, planes)] {
+                let mut out = lent.clone();
+                text.push_str(&format!("{name} {} {}\n", hex(&input), hex(&lent)));
+                if let Ok(length) = by(&input, &mut out) {
+                    text.push_str(&format!("{back} {} {}\n", hex(&out[..length]), hex(&lent)));
+                }
+            }
+        }
+        text.into_bytes()
+    })
+}
+
 /// The changes of a saved frame. Each is restored where the frame itself stands, or what the change before made of it, and what stands then
 /// is saved.
 pub fn frame_changes() -> impl Iterator<Item = Vec<u8>> {
@@ -1199,6 +1296,31 @@ fn fill(rows: &mut Vec<Row>, at: usize, wanted: usize) {
     let row = rows[at].clone();
     let there = rows.iter().filter(|of| of.head == row.head).count();
     rows.splice(at..at, vec![row; wanted.saturating_sub(there)]);
+}
+
+// Samples in planes and back, for the fixed list: two samples, none, every special word. The inputs are whole and cut within a sample, the
+// outputs longer, as long and too short.
+fn arranged_samples() -> String {
+    let mut text = String::from(
+        "\n# Samples in planes, and back.\n\
+         planes 0000803F0000003F EEEEEEEEEEEEEEEEEE\n\
+         samples 0000000080003F3F EEEEEEEEEEEEEEEEEE\n\
+         planes - -\nplanes - ee\nplanes 00000000 -\nplanes 000000 -\n\
+         samples - -\nsamples - ee\nsamples 00000000 -\nsamples 000000 -\n",
+    );
+    let words = SPECIAL.iter().rev();
+    let samples: Vec<u8> = words.flat_map(|w| w.to_le_bytes()).collect();
+    let mut planes = vec![0; samples.len()];
+    planes::planes(&samples, &mut planes).expect("whole samples, and a place for each byte");
+    for (call, input) in [("planes", &samples), ("samples", &planes)] {
+        for length in [input.len(), input.len() - 1, 8, 7, 6, 5] {
+            let call = format!("{call} {}", hex(&input[..length]));
+            for places in [length + 1, length, length - 1] {
+                text.push_str(&format!("{}\n", lend(&call, places)));
+            }
+        }
+    }
+    text
 }
 
 /// The fixed list: a call of each kind with each answer that it gives, then a short random history.
@@ -1517,7 +1639,9 @@ pub fn sample(seed: u64) -> Vec<u8> {
             }
         }
     }
-    text.push_str("convert 1 - -\nconvert 2 - ee\n\n# Bad lines.\n");
+    text.push_str("convert 1 - -\nconvert 2 - ee\n");
+    text.push_str(&arranged_samples());
+    text.push_str("\n# Bad lines.\n");
     for _ in 0..40 {
         writer.text.clear();
         writer.bad_line();

@@ -8,6 +8,7 @@ pub mod filters;
 pub mod histories;
 pub mod lists;
 pub mod numbers;
+pub mod planes;
 pub mod rota;
 pub mod sheets;
 pub mod text;

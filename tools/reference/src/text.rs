@@ -4,11 +4,12 @@ use crate::closing::{self, Row};
 use crate::counts::Counts;
 use crate::filters::{type_of, word_of, Filter, Form, Mode, NAN};
 use crate::lists::Frame;
+use crate::planes::{self, Arrangement};
 use crate::sheets;
 
 pub const LONGEST_LINE: usize = 65_535;
 const MOST_SAMPLES: usize = 1_024;
-const MOST_BYTES: usize = 4_096;
+pub const MOST_BYTES: usize = 4_096;
 const MOST_TOLD: u64 = 65_535;
 /// A count less than so many samples below the greatest is near it: some runs of histories would pass it.
 const NEAR: u32 = 100;
@@ -293,6 +294,45 @@ fn put_written(
     put_bytes(out, to);
 }
 
+// Whether one of these samples is a NaN that a call of the frame would not give back.
+fn has_another_nan(samples: &[u8]) -> bool {
+    let words = samples.chunks_exact(4);
+    words
+        .map(|word| u32::from_le_bytes(word.try_into().unwrap()))
+        .any(|word| f32::from_bits(word).is_nan() && word != NAN)
+}
+
+fn arrange(
+    name: &str,
+    by: Arrangement,
+    input: &[u8],
+    out: &[u8],
+    counts: &mut Counts,
+    to: &mut String,
+) -> Option<()> {
+    let (input, mut out) = (bytes(input)?, bytes(out)?);
+    let short = out.len() < input.len();
+    let answer = by(&input, &mut out);
+    judged(name, answer.err().unwrap_or(0), counts);
+    let counted = |what: &str| format!("{name} {what}");
+    if let Ok(length) = answer {
+        let samples = match name {
+            "planes" => &input,
+            _ => &out[..length],
+        };
+        counts.add_each(&[
+            (&counted("of no samples"), length == 0),
+            (&counted("of 1,024 samples"), length == MOST_BYTES),
+            (&counted("of another NaN"), has_another_nan(samples)),
+            (&counted("with places left over"), length < out.len()),
+        ]);
+    } else if answer == Err(19) && short {
+        counts.add(&counted("refused 19 before 12"), 1);
+    }
+    put_written(name, answer, &out, counts, to);
+    Some(())
+}
+
 fn put_part(name: &str, part: &[u8], counts: &mut Counts, to: &mut String) {
     named(name, counts, to);
     to.push(' ');
@@ -497,6 +537,8 @@ fn call(frame: &mut Frame, line: &[u8], counts: &mut Counts, to: &mut String) ->
             }
             put_written("convert", answer, &out, counts, to);
         }
+        [b"planes", input, out] => arrange("planes", planes::planes, input, out, counts, to)?,
+        [b"samples", input, out] => arrange("samples", planes::samples, input, out, counts, to)?,
         [b"check", sheet, entry] => {
             let (_, _, refusal) = looked_at("check", sheets::check, sheet, entry, counts)?;
             numbered("check", refusal, counts, to);

@@ -1,6 +1,6 @@
 //! Gives histories to frame_calls and to the reference, and compares what they write byte for byte.
 //! `histories random --seed N --calls N --lines N`, `histories short|saves|rota|closings --length N`, `histories sheets`, `histories frames`,
-//! `histories sample`.
+//! `histories planes`, `histories sample`.
 //! A history gets a program of its own; the reference gets many, with `# fresh frame` between.
 
 use reference::closing::{LENGTH, RULES};
@@ -17,8 +17,8 @@ const REFERENCE: &str = "target/cargo/release/reference";
 const FOLDER: &str = "target/histories";
 
 /// The numbers of the refusals that there are. Heads come to 18 by counts that are restored; `count_limit` runs all the samples.
-const REFUSALS: [u8; 19] = [
-    1, 2, 3, 4, 5, 6, 7, 8, 9, 10, 11, 12, 13, 14, 15, 16, 17, 18, 20,
+const REFUSALS: [u8; 20] = [
+    1, 2, 3, 4, 5, 6, 7, 8, 9, 10, 11, 12, 13, 14, 15, 16, 17, 18, 19, 20,
 ];
 
 /// How often each thing has to have been tried in a random run.
@@ -33,6 +33,9 @@ const MIRRORED_LOADS: [&str; 3] = [
     "mirrored load svf",
     "mirrored load naive",
 ];
+
+/// Only the writer of the histories knows how often.
+const BROUGHT_BACK: &str = "planes or samples brought back by the other";
 
 struct Comparison {
     counts: Counts,
@@ -247,6 +250,16 @@ fn tried_enough(counts: &Counts) -> bool {
         "back of a restored filter accepted",
         "run up to the greatest count",
         "run of no samples at the greatest count",
+        "planes refused 19",
+        "planes refused 12",
+        "planes refused 19 before 12",
+        "planes of no samples",
+        "planes of 1,024 samples",
+        "samples refused 19",
+        "samples refused 12",
+        "samples refused 19 before 12",
+        "samples of no samples",
+        "samples of 1,024 samples",
     ] {
         wanted.push(call.to_string());
     }
@@ -284,6 +297,13 @@ fn tried_enough(counts: &Counts) -> bool {
         "restore of marks",
         "run of a restored filter accepted",
         "two of a restored filter accepted",
+        "planes accepted",
+        "planes of another NaN",
+        "planes with places left over",
+        "samples accepted",
+        "samples of another NaN",
+        "samples with places left over",
+        BROUGHT_BACK,
     ];
     let mut enough = true;
     for (what, least) in wanted
@@ -414,6 +434,29 @@ fn summary(counts: &Counts) {
             .iter()
             .sum::<u64>(),
     );
+    println!(
+        "{}; brought back by the other {}",
+        rearranged(counts),
+        counts.of(BROUGHT_BACK)
+    );
+}
+
+fn rearranged(counts: &Counts) -> String {
+    let [planes, samples] = ["planes", "samples"].map(|call| {
+        let of = |what: &str| counts.of(&format!("{call} {what}"));
+        format!(
+            "{call} {}, of no samples {}, of 1,024 {}, of another NaN {}, with places left over {}, refused with 19 {}, of these short {}, with 12 {}",
+            of("accepted"),
+            of("of no samples"),
+            of("of 1,024 samples"),
+            of("of another NaN"),
+            of("with places left over"),
+            of("refused 19"),
+            of("refused 19 before 12"),
+            of("refused 12"),
+        )
+    });
+    format!("{planes}; {samples}")
 }
 
 fn value(arguments: &[String], name: &str, otherwise: u64) -> u64 {
@@ -445,6 +488,7 @@ fn main() {
                 let batch: Vec<Vec<u8>> = (0..at_once).map(|_| writer.history(lines)).collect();
                 comparison.compare(&batch);
             }
+            comparison.counts.add(BROUGHT_BACK, writer.returned);
             println!(
                 "histories: {} calls in {} random histories, seed {seed}, {:.1} s: no difference",
                 comparison.counts.of("calls"),
@@ -476,6 +520,15 @@ fn main() {
             );
             summary(&comparison.counts);
         }
+        Some("planes") => {
+            comparison.all(histories::arrangements(), 13);
+            println!(
+                "histories: planes and samples of 0 to 64 bytes into 0 to 72 places, and back, {} calls, {:.1} s: no difference",
+                comparison.counts.of("calls"),
+                start.elapsed().as_secs_f64()
+            );
+            println!("{}", rearranged(&comparison.counts));
+        }
         Some("sample") => {
             use std::io::Write;
             std::io::stdout()
@@ -485,7 +538,7 @@ fn main() {
         other => {
             let Some(alphabet) = other.and_then(Alphabet::named) else {
                 eprintln!(
-                    "histories: random, short, saves, rota, closings, sheets, frames or sample"
+                    "histories: random, short, saves, rota, closings, sheets, frames, planes or sample"
                 );
                 exit(2);
             };
