@@ -1,19 +1,19 @@
 // Samples in planes, to store a trace. An accepted call has written as many bytes as its input has.
 
 ghost use Rattle.std.specs.Prelude.{◌≡◌};
-ghost use Rattle.planes.specs.Planes.{planes_of, samples_of, plane_number, arranged};
+ghost use Rattle.planes.specs.Planes.{planes_of, samples_of, arrange_number, arranged};
 
 use filter_core::number_in;
 
 pub fn samples_to_planes(samples: &[u8], output: &mut [u8]) -> u8
-    ensures value { result ≡ plane_number samples.now output.old }
+    ensures value { result ≡ arrange_number samples.now output.old }
     ensures output_after { output.new ≡ arranged planes_of samples.now output.old }
 {
     number_in(planes::samples_to_planes(samples, output))
 }
 
 pub fn planes_to_samples(planes: &[u8], output: &mut [u8]) -> u8
-    ensures value { result ≡ plane_number planes.now output.old }
+    ensures value { result ≡ arrange_number planes.now output.old }
     ensures output_after { output.new ≡ arranged samples_of planes.now output.old }
 {
     number_in(planes::planes_to_samples(planes, output))

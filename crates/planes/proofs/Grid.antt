@@ -1,4 +1,4 @@
--- The laws of rows and of columns: those of both arrangements of samples, once. Assumes nothing.
+-- The laws of rows and of the transpose: those of both arrangements of samples, once. Assumes nothing.
 use Prim.Native.Nat.{ℕ, zero, suc, ◌+◌, ◌*◌, ◌<◌, ◌≤◌}
 use mathlib.Core.Path.{◌≡◌, refl, sym, ap, subst, ◌∙◌}
 use mathlib.Core.List.{List, [], ◌++◌, append_assoc}
@@ -8,10 +8,11 @@ use native.Mathlib.Omega.{arith}
 use lib.ListN.{length, get_or, take, drop, length-append, length-take, length-drop, get_or-append}
 use Rattle.std.specs.Prelude.{IsPermutation}
 use Rattle.std.proofs.lemmas.List.{append-nil, get_or-append-add, get_or-take, get_or-drop, nil_from_length, take-append-drop}
-use Rattle.std.proofs.lemmas.List.Sorted.{IsPermutation-refl, IsPermutation-trans, IsPermutation-cons, IsPermutation-append_comm, IsPermutation-append_left, IsPermutation-append_right}
+use Rattle.std.proofs.lemmas.List.Sorted.{IsPermutation-refl, IsPermutation-trans, IsPermutation-cons}
+use Rattle.std.proofs.lemmas.List.Sorted.{IsPermutation-append_comm, IsPermutation-append_left, IsPermutation-append_right}
 use Rattle.lists.specs.Table.{table}
 use Rattle.lists.proofs.Tables.{length_table, get_or_table, table_ext, table_is, table_none}
-use Rattle.planes.specs.Grid.{rows, cell, columns}
+use Rattle.planes.specs.Grid.{rows, cell, transpose}
 
 pub length_rows : (m n : ℕ) (f : ℕ → ℕ → ℕ) → length (rows m n f) ≡ m * n
 unfolding rows
@@ -77,10 +78,10 @@ rows_are (suc m) n s e =
     let l : length (drop n s) ≡ m * n = length-drop n s ∙ omega arith in
     rw (p, q, rows_are m n (drop n s) l) (take-append-drop n s)
 
--- what is read column by column, and then again, stands as it stood
-pub columns_back : (m n : ℕ) (s : List ℕ) → length s ≡ m * n → columns n m (columns m n s) ≡ s
-columns_back m n s e =
-    rows_ext m n (λ r c. cell m (columns m n s) c r) (cell n s) (λ r c h l. get_rows n m (λ c r. cell n s r c) c r l h) ∙ rows_are m n s e
+-- transposed twice, a list stands as it stood
+pub transposed_twice : (m n : ℕ) (s : List ℕ) → length s ≡ m * n → transpose n m (transpose m n s) ≡ s
+transposed_twice m n s e =
+    rows_ext m n (λ r c. cell m (transpose m n s) c r) (cell n s) (λ r c h l. get_rows n m (λ c r. cell n s r c) c r l h) ∙ rows_are m n s e
 
 -- ---- no value is lost, and none is made
 
@@ -105,8 +106,8 @@ column_out (suc m) n g =
     (between (table m (λ r. g (suc r) 0)) (table n (λ c. g 0 (suc c))) (rows m n (λ r c. g (suc r) (suc c))) (rows m (suc n) (λ r. g (suc r)))
     (column_out m n (λ r. g (suc r))))
 
-pub columns_rearrange : (m n : ℕ) (f : ℕ → ℕ → ℕ) → IsPermutation (rows m n f) (rows n m (λ c r. f r c))
+pub transpose_rearranges : (m n : ℕ) (f : ℕ → ℕ → ℕ) → IsPermutation (rows m n f) (rows n m (λ c r. f r c))
 unfolding rows
-columns_rearrange zero n f = rw (rows_of_none n (λ c r. f r c)) (IsPermutation-refl [])
-columns_rearrange (suc m) n f =
-    IsPermutation-trans _ _ _ (IsPermutation-append_right (table n (f 0)) _ _ (columns_rearrange m n (λ r. f (suc r)))) (column_out n m (λ c r. f r c))
+transpose_rearranges zero n f = rw (rows_of_none n (λ c r. f r c)) (IsPermutation-refl [])
+transpose_rearranges (suc m) n f =
+    IsPermutation-trans _ _ _ (IsPermutation-append_right (table n (f 0)) _ _ (transpose_rearranges m n (λ r. f (suc r)))) (column_out n m (λ c r. f r c))

@@ -45,7 +45,8 @@ fills_four {xs} {ys} {zs} {k} a b c d f e h =
     let r = fills_more {k = k + 2} c q (omega arith) (omega arith) in
     let s = fills_more {k = k + 3} d r (omega arith) (omega arith) in
     subst (λ (l : List ℕ). Fills l ys (set (set (set (set zs k a) (k + 1) b) (k + 2) c) (k + 3) d))
-    (append_assoc ((xs ++ a ∷ []) ++ b ∷ []) (c ∷ []) (d ∷ []) ∙ append_assoc (xs ++ a ∷ []) (b ∷ []) (c ∷ d ∷ []) ∙ append_assoc xs (a ∷ []) (b ∷ c ∷ d ∷ [])) s
+    (append_assoc ((xs ++ a ∷ []) ++ b ∷ []) (c ∷ []) (d ∷ []) ∙ append_assoc (xs ++ a ∷ []) (b ∷ []) (c ∷ d ∷ [])
+    ∙ append_assoc xs (a ∷ []) (b ∷ c ∷ d ∷ [])) s
 
 -- as many as there are
 pub fills_all : {xs ys zs : List ℕ} → Fills xs ys zs → length xs ≡ length ys → zs ≡ xs

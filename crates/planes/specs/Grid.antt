@@ -1,4 +1,4 @@
--- A list in rows, and the list of its columns.
+-- A list that stands in rows, and its transpose.
 use Rattle.std.specs.Prelude.{ℕ, zero, suc, ◌+◌, ◌*◌, List, [], ◌++◌, get_or}
 use Rattle.lists.specs.Table.{table}
 
@@ -11,6 +11,6 @@ rows (suc m) n f = table n (f 0) ++ rows m n (λ r. f (suc r))
 abbrev pub cell : ℕ → List ℕ → ℕ → ℕ → ℕ
 cell n s r c = get_or s (r * n + c) 0
 
--- the n columns of s, which stands in m rows of n, one after the other
-abbrev pub columns : ℕ → ℕ → List ℕ → List ℕ
-columns m n s = rows n m (λ c r. cell n s r c)
+-- the transpose of s, which stands in m rows of n: its n columns as rows of m
+abbrev pub transpose : ℕ → ℕ → List ℕ → List ℕ
+transpose m n s = rows n m (λ c r. cell n s r c)

@@ -1,6 +1,6 @@
 -- Where each byte stands, that each arrangement undoes the other, and what neither loses (02 j): on any bytes, for every number of samples.
 use Rattle.std.specs.Prelude.{ℕ, ◌+◌, ◌*◌, ◌%◌, ◌≡◌, ◌≤◌, ◌<◌, List, ◌++◌, length, get_or, take, drop, IsPermutation}
-use Rattle.planes.specs.Planes.{planes_of, samples_of, plane_number, arranged}
+use Rattle.planes.specs.Planes.{planes_of, samples_of, arrange_number, arranged}
 
 -- Byte p of sample i stands at 4 * i + p among the samples, and at p * n + i in the planes.
 pub record IndexLaw : Type 0 where
@@ -16,7 +16,8 @@ pub record Rearranges : Type 0 where
 
 -- what the call with the arrangement f wrote of s, the call with g makes into s again
 pub record Undone (f g : ℕ → List ℕ → List ℕ) (s out back : List ℕ) : Type 0 where
-  pub accepted : plane_number s out ≡ 0
+  pub accepted : arrange_number s out ≡ 0
+  pub back_accepted : arrange_number (take (length s) (arranged f s out)) back ≡ 0
   pub bytes : arranged g (take (length s) (arranged f s out)) back ≡ s ++ drop (length s) back
 
 abbrev pub Undoes : (ℕ → List ℕ → List ℕ) → (ℕ → List ℕ → List ℕ) → Type 0

@@ -5,8 +5,8 @@
 ghost use Rattle.std.specs.Prelude.{◌≡◌, ◌≤◌, ◌+◌, ◌*◌, ◌++◌, length, take, drop, IfOk};
 ghost use Rattle.filter_core.specs.Refusal.{number_in};
 ghost use Rattle.std.specs.Int.{w32, to_le_bytes};
-ghost use Rattle.planes.specs.Planes.{planes_of, samples_of, partial_refusal, plane_refusal, plane_number, arranged};
-ghost use Rattle.planes.specs.Rows.{PlanesByRows, KeepsTheRest};
+ghost use Rattle.planes.specs.Planes.{planes_of, samples_of, partial_refusal, arrange_refusal, arrange_number, arranged};
+ghost use Rattle.planes.specs.Rows.{ArrangeByRows, KeepsTheRest};
 ghost use Rattle.planes.specs.RoundTrip.{IndexLaw, Rearranges, RoundTrip};
 
 use filter_core::Refusal;
@@ -24,7 +24,7 @@ fn check_whole(length: usize) -> Result<(), Refusal>
 }
 
 fn check(length: usize, room: usize) -> Result<(), Refusal>
-    ensures { number_in result ≡ plane_refusal length room }
+    ensures { number_in result ≡ arrange_refusal length room }
 {
     check_whole(length)?;
     lists::check_room(length, room)
@@ -82,9 +82,10 @@ fn put_samples(planes: &[u8], n: usize, output: &mut [u8])
 
 // ---- the calls
 
-// The samples in planes; answers how many bytes that were. A refused call leaves every byte of the output, an accepted one those behind.
+// The samples into their planes. Answers how many bytes it wrote, as many as the input has. Later places of the output keep their contents,
+// and a refused call writes nothing.
 pub fn samples_to_planes(samples: &[u8], output: &mut [u8]) -> Result<usize, Refusal>
-    ensures refusal { number_in result ≡ plane_number samples.now output.old }
+    ensures refusal { number_in result ≡ arrange_number samples.now output.old }
     ensures answer { IfOk result (λ answer. answer ≡ length samples.now) }
     ensures output_after { output.new ≡ arranged planes_of samples.now output.old }
 {
@@ -93,9 +94,9 @@ pub fn samples_to_planes(samples: &[u8], output: &mut [u8]) -> Result<usize, Ref
     Ok(samples.len())
 }
 
-// The samples that stand in planes, as they were; answers and refuses as the other does.
+// Planes into the samples that they are of. Answers and refuses as `samples_to_planes` does.
 pub fn planes_to_samples(planes: &[u8], output: &mut [u8]) -> Result<usize, Refusal>
-    ensures refusal { number_in result ≡ plane_number planes.now output.old }
+    ensures refusal { number_in result ≡ arrange_number planes.now output.old }
     ensures answer { IfOk result (λ answer. answer ≡ length planes.now) }
     ensures output_after { output.new ≡ arranged samples_of planes.now output.old }
 {
@@ -118,9 +119,10 @@ pub fn rearranges()
     ensures { Rearranges }
 {}
 
-#[tactic(auto, using(crate::proofs::Rows::planes_by_rows))]
-pub fn planes_by_rows()
-    ensures { PlanesByRows }
+// Both calls answer each number in its row's case, and in no other.
+#[tactic(auto, using(crate::proofs::Rows::arrange_by_rows))]
+pub fn arrange_by_rows()
+    ensures { ArrangeByRows }
 {}
 
 // The places behind the input's bytes keep their contents; after a refused call all do.

@@ -25,7 +25,7 @@ use Rattle.sheets.specs.EditionOne.{check_one, lookup_one}
 use Rattle.sheets.specs.declared.edition.Edition.TheVariants.{One, Two}
 use Rattle.library.specs.Library.{count as entry_count, library_of, bytes_of, entry_at}
 use Rattle.conversion.specs.Conversion.{convert_number, converted_of}
-use Rattle.planes.specs.Planes.{planes_of, samples_of, plane_number, arranged}
+use Rattle.planes.specs.Planes.{planes_of, samples_of, arrange_number, arranged}
 use Rattle.any_filter.specs.Cases.{passes_of}
 use Rattle.any_filter.specs.declared.Filter.{Filter}
 use Rattle.any_filter.specs.declared.Filter.TheVariants.{DcBlocker as DcBlockerIn, OnePole as OnePoleIn, Svf as SvfIn, NaiveSvf as NaiveIn, ModifiedSvf as ModifiedIn, CrossoverSvf as CrossoverIn}
@@ -404,6 +404,6 @@ pub record WorkedExamples : Type 0 where
   -- into no room are refused with 19, not with 12; a byte of room too little with 12; no samples are fine
   pub planes_bytes : arranged planes_of two_samples (0xee ∷ replicate 7 0 ++ 0xee ∷ []) ≡ two_in_planes ++ 0xee ∷ []
   pub planes_back : arranged samples_of two_in_planes (replicate 8 0xee) ≡ two_samples
-  pub planes_partial : plane_number (replicate 3 0) [] ≡ 19
-  pub planes_short : plane_number two_samples (replicate 7 0) ≡ 12
-  pub planes_of_none : plane_number [] [] ≡ 0
+  pub planes_partial : arrange_number (replicate 3 0) [] ≡ 19
+  pub planes_short : arrange_number two_samples (replicate 7 0) ≡ 12
+  pub planes_of_none : arrange_number [] [] ≡ 0
