@@ -6,16 +6,18 @@
  * writes the arrays that it is lent and keeps nothing else.
  *
  * A call that can be refused answers MOTIF_OK or the refusal's number. A refused call changes nothing: neither the filter nor an output.
- * A buffer form works over the shortest of its lengths; later places keep their contents.
+ * A buffer form works over the shortest of its lengths, but samples in planes, where the whole input counts; later places keep their
+ * contents.
  *
  * What the proofs take for granted, and no call checks:
  * - A pointer leads to memory that is there: none is NULL, not even where the call is refused. The one exception is a buffer whose own
  *   length is 0. By the proofs nothing outside its length is read or written, so its pointer is never used and may be NULL.
- * - Every pointer is aligned for a float. `state` has as many places as its declaration says, a buffer as many as its length.
+ * - Every pointer but those of samples in planes is aligned for a float. `state` has as many places as its declaration says, a buffer as
+ *   many as its length.
  * - `state` is lent as a buffer is: no two of the arrays and outputs that one call is lent overlap. So no form but dc_blocker_process works
  *   in place, and svf_set does not take one array twice.
- * - Every place holds a float. An output and the array of a `_new` are only written, so they may be uninitialized.
- * - The bytes of samples in planes hold anything, and stand at any address.
+ * - Every place but those of samples in planes, whose bytes hold anything and stand at any address, holds a float. An output and the array
+ *   of a `_new` are only written, so they may be uninitialized.
  * - The floating-point flags are as a program starts: rounding to nearest, subnormal numbers kept. With others, as flush-to-zero, the
  *   numbers are not the proved ones.
  *
@@ -226,14 +228,16 @@ uint8_t crossover_svf_process(float state[8], const float *in, size_t in_length,
  * all second, all third and all highest, each plane in the samples' order. The bytes are moved and not read as numbers, so each call undoes
  * the other on any bytes, NaNs included.
  *
+ * Both lengths count bytes. The two buffers do not overlap: neither call works in place.
+ *
  * The whole input is arranged or nothing: an accepted call has written as many bytes as the input has. Later places keep their contents.
  * Refused: MOTIF_PARTIAL, then MOTIF_SHORT. An input of no bytes is accepted. */
 
 /* Samples into their planes. */
-uint8_t samples_to_planes(const uint8_t *samples, size_t samples_length, uint8_t *output, size_t output_length);
+uint8_t samples_to_planes(const uint8_t *samples, size_t input_length, uint8_t *output, size_t output_length);
 
 /* Planes into the samples that they are of. */
-uint8_t planes_to_samples(const uint8_t *planes, size_t planes_length, uint8_t *output, size_t output_length);
+uint8_t planes_to_samples(const uint8_t *planes, size_t input_length, uint8_t *output, size_t output_length);
 
 #ifdef __cplusplus
 }

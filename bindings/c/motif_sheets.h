@@ -1,7 +1,7 @@
 /*
  * The reader of motif sheets, proved in Rattle, for C on x86-64 with the System V ABI, as on Linux. Link
  * target/staticlib/libsheet_exports.a, which `tools/archive sheet_exports` proves and writes. It reads both editions and is the reader
- * alone: no filter, no library and no frame is linked with it.
+ * alone: no filter, no library and no frame is linked with it. The processor must have SSE 4.2 (x86-64-v2).
  *
  * A call answers SHEET_OK or the number of what is wrong first. A refused call changes nothing.
  *

@@ -3,8 +3,8 @@
 //! the source, in the last bits: it is a series here, and the platform's `tan` or `sin` there.
 //!
 //! Code that is written for `filter.rs` compiles as it is with `use motif_filters::filter::..` in the place of its `use` line: the module
-//! [`filter`] has the source's signatures, and panics where a call is refused. At the top of the crate the six calls that can be refused
-//! answer a `Result` instead, and nothing panics. A refused call leaves the filter and the buffers as they were:
+//! [`filter`] has the source's signatures, and panics where a call is refused. At the top of the crate the six calls of the filters that
+//! can be refused answer a `Result` instead, and nothing panics. A refused call leaves the filter and the buffers as they were:
 //!
 //! | call | refused |
 //! |---|---|

@@ -1,6 +1,6 @@
 use std::fmt;
 
-/// Why a call was refused. It changed nothing.
+/// Why a call was refused. It changed nothing. Further calls may bring further cases, so a match needs an arm for the rest.
 ///
 /// ```
 /// use motif_filters::{FrequencyApproximation, OnePole, Refusal};
@@ -10,6 +10,7 @@ use std::fmt;
 /// assert_eq!(Refusal::Frequency.number(), 11);
 /// ```
 #[derive(Debug, Clone, Copy, PartialEq, Eq)]
+#[non_exhaustive]
 pub enum Refusal {
     /// 10: a stride or a decimation of 0.
     Step,

@@ -2,7 +2,7 @@
 //! and the refusals. `compare [--seed N] [--rounds N]`, or `compare --full`: OnePole::tan and the frequency of NaiveSvf at all 2^32 words.
 
 use judge::proved::{self, ffi, Refusal};
-use judge::{bits, frequency_refusal, oracle, Numbers};
+use judge::{bits, frequency_refusal, oracle, setting, Numbers};
 use std::collections::BTreeMap;
 use std::time::Instant;
 
@@ -288,9 +288,9 @@ fn one_pole(n: &mut Numbers, t: &mut Tally, tame: bool) {
     same!(t, OnePole, w, "init", init());
     same!(t, OnePole, w, "reset", reset());
     for by in APPROXIMATIONS {
-        one_pole_at(t, w, n.setting(), by);
+        one_pole_at(t, w, setting(n), by);
     }
-    one_pole_by_series(t, w, n.setting());
+    one_pole_by_series(t, w, setting(n));
     for (p, q) in MODES {
         let (mut a, mut b) = pair!(OnePole, w);
         t.at("OnePole::process", format!("{w:?} {p:?}"));
@@ -334,9 +334,9 @@ fn svf(n: &mut Numbers, t: &mut Tally, tame: bool) {
     t.at("Svf::g, r, h", format!("{v:?}"));
     t.words("g, r, h", &[c.g(), c.r(), c.h()], &[d.g(), d.r(), d.h()]);
     for by in APPROXIMATIONS {
-        svf_at(t, w, n.setting(), n.any(), by);
+        svf_at(t, w, setting(n), n.any(), by);
     }
-    svf_by_series(t, w, n.setting(), n.any());
+    svf_by_series(t, w, setting(n), n.any());
     // Settings that a user would have, half of the time.
     let w = if tame && n.below(2) == 0 {
         let mut s = oracle::Svf::from_fields(w);
@@ -518,9 +518,9 @@ fn naive(n: &mut Numbers, t: &mut Tally, tame: bool) {
     t.at("NaiveSvf::lp, bp", format!("{w:?}"));
     t.words("lp, bp", &[a.lp(), a.bp()], &[b.lp(), b.bp()]);
     for by in APPROXIMATIONS {
-        naive_at(t, w, n.setting(), n.any(), by);
+        naive_at(t, w, setting(n), n.any(), by);
     }
-    naive_by_series(t, w, n.setting(), n.any());
+    naive_by_series(t, w, setting(n), n.any());
     for (k, (p, q)) in MODES.into_iter().enumerate() {
         let (mut a, mut b) = pair!(NaiveSvf, w);
         t.at("NaiveSvf::process", format!("{w:?} {p:?}"));
@@ -686,7 +686,7 @@ fn user(n: &mut Numbers, t: &mut Tally, tame: bool) {
     let (f, resonance) = if tame {
         (n.frequency(), 1.0 + n.frequency())
     } else {
-        (n.setting(), n.any())
+        (setting(n), n.any())
     };
     // Their code would panic at what is refused.
     let f = if f < oracle::EXACT_LOWEST { -f } else { f };

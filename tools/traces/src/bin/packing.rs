@@ -2,23 +2,38 @@
 //! FOLDER, binary32 words, low byte first, and prints the files' names, each with what the trace is. `packing planes` and `packing samples`
 //! arrange standard input and write it to standard output.
 
-use judge::proved::planes::{planes_to_samples, samples_to_planes};
-use judge::proved::{FilterMode, FrequencyApproximation, Refusal, Svf};
-use judge::{leaf, Numbers};
 use std::io::{Read, Write};
+use traces::proved::planes::{planes_to_samples, samples_to_planes};
+use traces::proved::{FilterMode, FrequencyApproximation, Refusal, Svf};
+use traces::{leaf, Numbers};
 
-/// The samples of one coordinate.
+/// The samples of one coordinate of a long trace.
 const SAMPLES: usize = 48_000;
+
+/// The samples of an edge of the coarser walk.
+const COARSE: usize = 50;
 
 type Line = Vec<f32>;
 
-/// The leaf's edges, walked round once at an even step, the last point followed by the first.
+/// Each point of the leaf with the one that follows it, round to the first.
+fn edges([x, y]: &[Line; 2]) -> Vec<[[f64; 2]; 2]> {
+    let point = |i: usize| [x[i % x.len()] as f64, y[i % y.len()] as f64];
+    (0..x.len()).map(|i| [point(i), point(i + 1)]).collect()
+}
+
+fn on([from, to]: [[f64; 2]; 2], part: f64) -> [f32; 2] {
+    [0, 1].map(|axis| (from[axis] + part * (to[axis] - from[axis])) as f32)
+}
+
+fn lines(points: Vec<[f32; 2]>) -> [Line; 2] {
+    [0, 1].map(|axis| points.iter().map(|p| p[axis]).collect())
+}
+
+/// The leaf's edges, walked round once at an even step.
 fn walked() -> [Line; 2] {
-    let [x, y] = leaf().map(|line| line.iter().map(|v| *v as f64).collect::<Vec<f64>>());
-    let next = |i: usize| (i + 1) % x.len();
-    let lengths: Vec<f64> = (0..x.len())
-        .map(|i| (x[next(i)] - x[i]).hypot(y[next(i)] - y[i]))
-        .collect();
+    let edges = edges(&leaf());
+    let length = |[[x, y], [to_x, to_y]]: [[f64; 2]; 2]| (to_x - x).hypot(to_y - y);
+    let lengths: Vec<f64> = edges.iter().map(|edge| length(*edge)).collect();
     let round: f64 = lengths.iter().sum();
     let (mut edge, mut begins) = (0, 0.0);
     let points = (0..SAMPLES).map(|k| {
@@ -27,11 +42,17 @@ fn walked() -> [Line; 2] {
             begins += lengths[edge];
             edge += 1;
         }
-        let part = (at - begins) / lengths[edge];
-        [&x, &y].map(|v| (v[edge] + part * (v[next(edge)] - v[edge])) as f32)
+        on(edges[edge], (at - begins) / lengths[edge])
     });
-    let points: Vec<[f32; 2]> = points.collect();
-    [0, 1].map(|axis| points.iter().map(|p| p[axis]).collect())
+    lines(points.collect())
+}
+
+/// The same with as many samples on each edge.
+fn walked_coarsely() -> [Line; 2] {
+    let points = edges(&leaf())
+        .into_iter()
+        .flat_map(|edge| (0..COARSE).map(move |k| on(edge, k as f64 / COARSE as f64)));
+    lines(points.collect())
 }
 
 /// As `outline` smooths a line: twice round, and what comes in the second round counts.
@@ -72,31 +93,31 @@ fn noise(n: &mut Numbers) -> Line {
 }
 
 /// Every x and then every y, in files by name.
-fn traces() -> [(&'static str, &'static str, [Line; 2]); 7] {
+fn traces() -> [(&'static str, &'static str, [Line; 2]); 10] {
     let mut n = Numbers(1);
-    let leaf = walked();
-    let hand = leaf.each_ref().map(|line| shaken(line, &mut n));
-    [
-        ("leaf", "leaf", leaf.clone()),
-        (
-            "leaf_filtered",
-            "leaf, filtered",
-            leaf.each_ref().map(filtered),
-        ),
-        ("hand", "leaf with jitter", hand.clone()),
-        (
-            "hand_filtered",
-            "leaf with jitter, filtered",
-            hand.each_ref().map(filtered),
-        ),
-        (
-            "tablet",
-            "leaf with jitter, in 1024ths",
-            hand.each_ref().map(counted),
-        ),
-        ("walk", "random walk", [walk(&mut n), walk(&mut n)]),
-        ("noise", "noise", [noise(&mut n), noise(&mut n)]),
-    ]
+    let walked = walked();
+    let walked_filtered = walked.each_ref().map(filtered);
+    let hand = walked.each_ref().map(|line| shaken(line, &mut n));
+    let hand_filtered = hand.each_ref().map(filtered);
+    let hand_counted = hand.each_ref().map(counted);
+    let walks = [walk(&mut n), walk(&mut n)];
+    let noises = [noise(&mut n), noise(&mut n)];
+    let coarse = walked_coarsely();
+    let coarse_hand = coarse.each_ref().map(|line| shaken(line, &mut n));
+    #[rustfmt::skip]
+    let traces = [
+        ("points", "leaf, its 16 points", leaf()),
+        ("coarse", "leaf, 50 samples an edge", coarse),
+        ("coarse_hand", "leaf, 50 samples an edge, with jitter", coarse_hand),
+        ("leaf", "leaf", walked),
+        ("leaf_filtered", "leaf, filtered", walked_filtered),
+        ("hand", "leaf with jitter", hand),
+        ("hand_filtered", "leaf with jitter, filtered", hand_filtered),
+        ("tablet", "leaf with jitter, in 1024ths", hand_counted),
+        ("walk", "random walk", walks),
+        ("noise", "noise", noises),
+    ];
+    traces
 }
 
 fn arrange(by: fn(&[u8], &mut [u8]) -> Result<usize, Refusal>) {
