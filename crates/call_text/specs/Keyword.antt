@@ -3,15 +3,15 @@ use Rattle.std.specs.Prelude.{ℕ, List, [], ◌∷◌, Result, map, ok_or, code
 use Rattle.std.proofs.Common.{Bor}
 use Rattle.form_text.specs.Name.{look_up}
 use Rattle.call_text.specs.declared.keyword.Keyword.{Keyword}
-use Rattle.call_text.specs.declared.keyword.Keyword.TheVariants.{Alone, OfHead, OfHeadNumber, OfBytes, OfBytesNumber, OfTwoBytes, Run, Two, Tell, Convert}
+use Rattle.call_text.specs.declared.keyword.Keyword.TheVariants.{Alone, OfHead, OfHeadNumber, OfBuffer, OfBufferNumber, OfTwoBuffers, Run, Two, Tell, Convert}
 use Rattle.call_text.specs.declared.keyword.Alone.TheVariants.{Begin, Turn}
 use Rattle.call_text.specs.declared.keyword.OfHead.TheVariants.{Rest, Mark, Head, Count}
 use Rattle.call_text.specs.declared.keyword.OfHeadNumber.TheVariants.{Load, Back, Drop}
-use Rattle.call_text.specs.declared.keyword.OfBytes.TheVariants.{Open, Write, Take, Save, Restore}
-use Rattle.call_text.specs.declared.keyword.OfBytesNumber.TheVariants.{Check, Lookup, Check1, Lookup1}
-use Rattle.call_text.specs.declared.keyword.OfTwoBytes.TheVariants.{Planes, Samples}
-use Rattle.call_text.specs.declared.line.BadLine.{BadLine}
-use Rattle.call_text.specs.declared.line.BadLine.TheVariants.{NoCall}
+use Rattle.call_text.specs.declared.keyword.OfBuffer.TheVariants.{Open, Write, Take, Save, Restore}
+use Rattle.call_text.specs.declared.keyword.OfBufferNumber.TheVariants.{Check, Lookup, Check1, Lookup1}
+use Rattle.call_text.specs.declared.keyword.OfTwoBuffers.TheVariants.{Planes, Samples}
+use Rattle.call_text.specs.declared.bad_line.BadLine.{BadLine}
+use Rattle.call_text.specs.declared.bad_line.BadLine.TheVariants.{NoCall}
 
 abbrev pub keywords : List (List ℕ × Keyword)
 keywords =
@@ -24,21 +24,21 @@ keywords =
     ∷ (codes "mark", OfHead Mark)
     ∷ (codes "back", OfHeadNumber Back)
     ∷ (codes "drop", OfHeadNumber Drop)
-    ∷ (codes "open", OfBytes Open)
-    ∷ (codes "write", OfBytes Write)
+    ∷ (codes "open", OfBuffer Open)
+    ∷ (codes "write", OfBuffer Write)
     ∷ (codes "begin", Alone Begin)
-    ∷ (codes "take", OfBytes Take)
-    ∷ (codes "save", OfBytes Save)
-    ∷ (codes "restore", OfBytes Restore)
+    ∷ (codes "take", OfBuffer Take)
+    ∷ (codes "save", OfBuffer Save)
+    ∷ (codes "restore", OfBuffer Restore)
     ∷ (codes "head", OfHead Head)
     ∷ (codes "count", OfHead Count)
-    ∷ (codes "check", OfBytesNumber Check)
-    ∷ (codes "lookup", OfBytesNumber Lookup)
-    ∷ (codes "check1", OfBytesNumber Check1)
-    ∷ (codes "lookup1", OfBytesNumber Lookup1)
+    ∷ (codes "check", OfBufferNumber Check)
+    ∷ (codes "lookup", OfBufferNumber Lookup)
+    ∷ (codes "check1", OfBufferNumber Check1)
+    ∷ (codes "lookup1", OfBufferNumber Lookup1)
     ∷ (codes "convert", Convert)
-    ∷ (codes "planes", OfTwoBytes Planes)
-    ∷ (codes "samples", OfTwoBytes Samples)
+    ∷ (codes "planes", OfTwoBuffers Planes)
+    ∷ (codes "samples", OfTwoBuffers Samples)
     ∷ []
 
 abbrev pub keyword_of : List ℕ → Result Keyword BadLine

@@ -15,16 +15,16 @@ use Rattle.call_text.specs.declared.keyword.OfHead.{OfHead}
 use Rattle.call_text.specs.declared.keyword.OfHead.TheVariants as of_head
 use Rattle.call_text.specs.declared.keyword.OfHeadNumber.{OfHeadNumber}
 use Rattle.call_text.specs.declared.keyword.OfHeadNumber.TheVariants as of_head_number
-use Rattle.call_text.specs.declared.keyword.OfBytes.{OfBytes}
-use Rattle.call_text.specs.declared.keyword.OfBytes.TheVariants as of_bytes
-use Rattle.call_text.specs.declared.keyword.OfBytesNumber.{OfBytesNumber}
-use Rattle.call_text.specs.declared.keyword.OfBytesNumber.TheVariants as of_bytes_number
-use Rattle.call_text.specs.declared.keyword.OfTwoBytes.{OfTwoBytes}
-use Rattle.call_text.specs.declared.keyword.OfTwoBytes.TheVariants as of_two_bytes
+use Rattle.call_text.specs.declared.keyword.OfBuffer.{OfBuffer}
+use Rattle.call_text.specs.declared.keyword.OfBuffer.TheVariants as of_buffer
+use Rattle.call_text.specs.declared.keyword.OfBufferNumber.{OfBufferNumber}
+use Rattle.call_text.specs.declared.keyword.OfBufferNumber.TheVariants as of_buffer_number
+use Rattle.call_text.specs.declared.keyword.OfTwoBuffers.{OfTwoBuffers}
+use Rattle.call_text.specs.declared.keyword.OfTwoBuffers.TheVariants as of_two_buffers
 use Rattle.call_text.specs.declared.line.Call.{Call}
 use Rattle.call_text.specs.declared.line.Call.TheVariants.{Open, Load, Run, Two, Rest, Mark, Back, Drop, Write, Check, Lookup, Head, Check1, Lookup1, Convert, Count, Begin, Take, Tell, Turn, Save, Restore, Planes, Samples}
-use Rattle.call_text.specs.declared.line.BadLine.{BadLine}
-use Rattle.call_text.specs.declared.line.BadLine.TheVariants.{NoCall, Words}
+use Rattle.call_text.specs.declared.bad_line.BadLine.{BadLine}
+use Rattle.call_text.specs.declared.bad_line.BadLine.TheVariants.{NoCall, Words}
 
 -- a call by the texts of its buffers and sheets
 abbrev pub CallOf : Type 0
@@ -101,31 +101,31 @@ head_number_call of_head_number.Load h n = Load h n
 head_number_call of_head_number.Back h n = Back h n
 head_number_call of_head_number.Drop h n = Drop h n
 
-abbrev pub bytes_call : OfBytes → List ℕ → CallOf
-bytes_call of_bytes.Open b = Open b
-bytes_call of_bytes.Write b = Write b
-bytes_call of_bytes.Take b = Take b
-bytes_call of_bytes.Save b = Save b
-bytes_call of_bytes.Restore b = Restore b
+abbrev pub buffer_call : OfBuffer → List ℕ → CallOf
+buffer_call of_buffer.Open b = Open b
+buffer_call of_buffer.Write b = Write b
+buffer_call of_buffer.Take b = Take b
+buffer_call of_buffer.Save b = Save b
+buffer_call of_buffer.Restore b = Restore b
 
-abbrev pub bytes_number_call : OfBytesNumber → List ℕ → ℕ → CallOf
-bytes_number_call of_bytes_number.Check b n = Check b n
-bytes_number_call of_bytes_number.Lookup b n = Lookup b n
-bytes_number_call of_bytes_number.Check1 b n = Check1 b n
-bytes_number_call of_bytes_number.Lookup1 b n = Lookup1 b n
+abbrev pub buffer_number_call : OfBufferNumber → List ℕ → ℕ → CallOf
+buffer_number_call of_buffer_number.Check b n = Check b n
+buffer_number_call of_buffer_number.Lookup b n = Lookup b n
+buffer_number_call of_buffer_number.Check1 b n = Check1 b n
+buffer_number_call of_buffer_number.Lookup1 b n = Lookup1 b n
 
-abbrev pub two_bytes_call : OfTwoBytes → List ℕ → List ℕ → CallOf
-two_bytes_call of_two_bytes.Planes i o = Planes i o
-two_bytes_call of_two_bytes.Samples i o = Samples i o
+abbrev pub two_buffers_call : OfTwoBuffers → List ℕ → List ℕ → CallOf
+two_buffers_call of_two_buffers.Planes i o = Planes i o
+two_buffers_call of_two_buffers.Samples i o = Samples i o
 
 -- what the fields behind a keyword make
 abbrev pub call_for : Keyword → List (List ℕ) → Option CallOf
 call_for (keyword.Alone k) fields = alone_call k fields
 call_for (keyword.OfHead k) fields = option_map (head_call k) (one_number fields)
 call_for (keyword.OfHeadNumber k) fields = option_map (λ p. head_number_call k p.0 p.1) (two_numbers fields)
-call_for (keyword.OfBytes k) fields = option_map (bytes_call k) (one_buffer fields)
-call_for (keyword.OfBytesNumber k) fields = option_map (λ p. bytes_number_call k p.0 p.1) (buffer_and_number fields)
-call_for (keyword.OfTwoBytes k) fields = option_map (λ p. two_bytes_call k p.0 p.1) (two_buffers fields)
+call_for (keyword.OfBuffer k) fields = option_map (buffer_call k) (one_buffer fields)
+call_for (keyword.OfBufferNumber k) fields = option_map (λ p. buffer_number_call k p.0 p.1) (buffer_and_number fields)
+call_for (keyword.OfTwoBuffers k) fields = option_map (λ p. two_buffers_call k p.0 p.1) (two_buffers fields)
 call_for keyword.Run fields = run_call fields
 call_for keyword.Two fields = two_call fields
 call_for keyword.Tell fields = tell_call fields

@@ -5,7 +5,7 @@ ghost use Rattle.std.specs.Prelude.{◌≡◌};
 ghost use Rattle.form_text.specs.Name.{look_up};
 ghost use Rattle.call_text.specs.Keyword.{keyword_of, texts};
 
-use crate::line::BadLine;
+use crate::bad_line::BadLine;
 
 // Nothing stands behind it.
 #[derive(Clone, Copy)]
@@ -33,7 +33,7 @@ pub(crate) enum OfHeadNumber {
 
 // BYTES
 #[derive(Clone, Copy)]
-pub(crate) enum OfBytes {
+pub(crate) enum OfBuffer {
     Open,
     Write,
     Take,
@@ -43,7 +43,7 @@ pub(crate) enum OfBytes {
 
 // BYTES ENTRY
 #[derive(Clone, Copy)]
-pub(crate) enum OfBytesNumber {
+pub(crate) enum OfBufferNumber {
     Check,
     Lookup,
     // The reader of edition 1 only.
@@ -53,7 +53,7 @@ pub(crate) enum OfBytesNumber {
 
 // BYTES BYTES
 #[derive(Clone, Copy)]
-pub(crate) enum OfTwoBytes {
+pub(crate) enum OfTwoBuffers {
     Planes,
     Samples,
 }
@@ -63,9 +63,9 @@ pub(crate) enum Keyword {
     Alone(Alone),
     OfHead(OfHead),
     OfHeadNumber(OfHeadNumber),
-    OfBytes(OfBytes),
-    OfBytesNumber(OfBytesNumber),
-    OfTwoBytes(OfTwoBytes),
+    OfBuffer(OfBuffer),
+    OfBufferNumber(OfBufferNumber),
+    OfTwoBuffers(OfTwoBuffers),
     // The rest have words of their own.
     Run,
     Two,
@@ -84,21 +84,21 @@ const KEYWORDS: [(&[u8], Keyword); 24] = [
     (b"mark", Keyword::OfHead(OfHead::Mark)),
     (b"back", Keyword::OfHeadNumber(OfHeadNumber::Back)),
     (b"drop", Keyword::OfHeadNumber(OfHeadNumber::Drop)),
-    (b"open", Keyword::OfBytes(OfBytes::Open)),
-    (b"write", Keyword::OfBytes(OfBytes::Write)),
+    (b"open", Keyword::OfBuffer(OfBuffer::Open)),
+    (b"write", Keyword::OfBuffer(OfBuffer::Write)),
     (b"begin", Keyword::Alone(Alone::Begin)),
-    (b"take", Keyword::OfBytes(OfBytes::Take)),
-    (b"save", Keyword::OfBytes(OfBytes::Save)),
-    (b"restore", Keyword::OfBytes(OfBytes::Restore)),
+    (b"take", Keyword::OfBuffer(OfBuffer::Take)),
+    (b"save", Keyword::OfBuffer(OfBuffer::Save)),
+    (b"restore", Keyword::OfBuffer(OfBuffer::Restore)),
     (b"head", Keyword::OfHead(OfHead::Head)),
     (b"count", Keyword::OfHead(OfHead::Count)),
-    (b"check", Keyword::OfBytesNumber(OfBytesNumber::Check)),
-    (b"lookup", Keyword::OfBytesNumber(OfBytesNumber::Lookup)),
-    (b"check1", Keyword::OfBytesNumber(OfBytesNumber::Check1)),
-    (b"lookup1", Keyword::OfBytesNumber(OfBytesNumber::Lookup1)),
+    (b"check", Keyword::OfBufferNumber(OfBufferNumber::Check)),
+    (b"lookup", Keyword::OfBufferNumber(OfBufferNumber::Lookup)),
+    (b"check1", Keyword::OfBufferNumber(OfBufferNumber::Check1)),
+    (b"lookup1", Keyword::OfBufferNumber(OfBufferNumber::Lookup1)),
     (b"convert", Keyword::Convert),
-    (b"planes", Keyword::OfTwoBytes(OfTwoBytes::Planes)),
-    (b"samples", Keyword::OfTwoBytes(OfTwoBytes::Samples)),
+    (b"planes", Keyword::OfTwoBuffers(OfTwoBuffers::Planes)),
+    (b"samples", Keyword::OfTwoBuffers(OfTwoBuffers::Samples)),
 ];
 
 // What stands beside a name in a table.

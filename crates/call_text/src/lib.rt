@@ -2,9 +2,11 @@
 // Nothing here has a `requires`: any bytes of any length are read as a call, as a line with no answer, or as a bad line.
 #![tactic(auto)]
 
+mod bad_line;
 mod buffer;
 mod edition;
 mod keyword;
 mod line;
 
-pub use line::{BadLine, Call, call_of};
+pub use bad_line::BadLine;
+pub use line::{Call, call_of};

@@ -2,12 +2,13 @@
 
 ghost use Rattle.std.specs.Prelude.{◌≡◌, option_map, option_copied};
 ghost use Rattle.form_text.specs.Field.{fields_left};
-ghost use Rattle.call_text.specs.Line.{small_number, one_number, two_numbers, one_buffer, buffer_and_number, two_buffers, tell_call, convert_call, run_call, two_call, alone_call, head_call, head_number_call, bytes_call, bytes_number_call, two_bytes_call, call_for, answer_for, is_silent, call_of, text_pair, text_buffers, text_call, text_answer};
+ghost use Rattle.call_text.specs.Line.{small_number, one_number, two_numbers, one_buffer, buffer_and_number, two_buffers, tell_call, convert_call, run_call, two_call, alone_call, head_call, head_number_call, buffer_call, buffer_number_call, two_buffers_call, call_for, answer_for, is_silent, call_of, text_pair, text_buffers, text_call, text_answer};
 
+use crate::bad_line::BadLine;
 use crate::buffer::units_field;
 use crate::edition::edition_of;
 use crate::keyword::{
-    Alone, Keyword, OfBytes, OfBytesNumber, OfHead, OfHeadNumber, OfTwoBytes, keyword_of,
+    Alone, Keyword, OfBuffer, OfBufferNumber, OfHead, OfHeadNumber, OfTwoBuffers, keyword_of,
 };
 use digits::number_of;
 use form_text::{Fields, form_of};
@@ -89,15 +90,6 @@ pub enum Call<B> {
     },
 }
 
-// Why a line is no call.
-#[derive(Clone, Copy)]
-pub enum BadLine {
-    // Its first word is no keyword.
-    NoCall,
-    // The words behind do not fit it.
-    Words,
-}
-
 // A NUMBER, if 16 bits hold it. A greater one is not cut to what they hold: its line is bad.
 fn small_number(s: &[u8]) -> Option<u16>
     ensures { result ≡ small_number s.now }
@@ -105,7 +97,7 @@ fn small_number(s: &[u8]) -> Option<u16>
     u16::try_from(number_of(s)?).ok()
 }
 
-// Each reader below has words of its own behind the keyword: one for any two words would be told how each is read, and be no shorter.
+// Each reader below is of other words: one for any two words would be told how each is read, and be no shorter.
 
 // HEAD
 fn one_number(fields: Fields<'_>) -> Option<usize>
@@ -231,38 +223,38 @@ fn head_number_call<'a>(keyword: OfHeadNumber, head: usize, n: usize) -> Call<&'
     }
 }
 
-fn bytes_call<'a>(keyword: OfBytes, bytes: &'a [u8]) -> Call<&'a [u8]>
-    ensures { text_call result ≡ bytes_call keyword bytes.now }
+fn buffer_call<'a>(keyword: OfBuffer, bytes: &'a [u8]) -> Call<&'a [u8]>
+    ensures { text_call result ≡ buffer_call keyword bytes.now }
 {
     match keyword {
-        OfBytes::Open => Call::Open(bytes),
-        OfBytes::Write => Call::Write(bytes),
-        OfBytes::Take => Call::Take(bytes),
-        OfBytes::Save => Call::Save(bytes),
-        OfBytes::Restore => Call::Restore(bytes),
+        OfBuffer::Open => Call::Open(bytes),
+        OfBuffer::Write => Call::Write(bytes),
+        OfBuffer::Take => Call::Take(bytes),
+        OfBuffer::Save => Call::Save(bytes),
+        OfBuffer::Restore => Call::Restore(bytes),
     }
 }
 
-fn bytes_number_call<'a>(keyword: OfBytesNumber, sheet: &'a [u8], entry: usize) -> Call<&'a [u8]>
-    ensures { text_call result ≡ bytes_number_call keyword sheet.now entry }
+fn buffer_number_call<'a>(keyword: OfBufferNumber, sheet: &'a [u8], entry: usize) -> Call<&'a [u8]>
+    ensures { text_call result ≡ buffer_number_call keyword sheet.now entry }
 {
     match keyword {
-        OfBytesNumber::Check => Call::Check { sheet, entry },
-        OfBytesNumber::Lookup => Call::Lookup { sheet, entry },
-        OfBytesNumber::Check1 => Call::Check1 { sheet, entry },
-        OfBytesNumber::Lookup1 => Call::Lookup1 { sheet, entry },
+        OfBufferNumber::Check => Call::Check { sheet, entry },
+        OfBufferNumber::Lookup => Call::Lookup { sheet, entry },
+        OfBufferNumber::Check1 => Call::Check1 { sheet, entry },
+        OfBufferNumber::Lookup1 => Call::Lookup1 { sheet, entry },
     }
 }
 
-fn two_bytes_call<'a>(keyword: OfTwoBytes, input: &'a [u8], output: &'a [u8]) -> Call<&'a [u8]>
-    ensures { text_call result ≡ two_bytes_call keyword input.now output.now }
+fn two_buffers_call<'a>(keyword: OfTwoBuffers, input: &'a [u8], output: &'a [u8]) -> Call<&'a [u8]>
+    ensures { text_call result ≡ two_buffers_call keyword input.now output.now }
 {
     match keyword {
-        OfTwoBytes::Planes => Call::Planes {
+        OfTwoBuffers::Planes => Call::Planes {
             samples: input,
             output,
         },
-        OfTwoBytes::Samples => Call::Samples {
+        OfTwoBuffers::Samples => Call::Samples {
             planes: input,
             output,
         },
@@ -279,14 +271,14 @@ fn call_for<'a>(keyword: Keyword, fields: Fields<'a>) -> Option<Call<&'a [u8]>>
             let (head, n) = two_numbers(fields)?;
             Some(head_number_call(keyword, head, n))
         }
-        Keyword::OfBytes(keyword) => Some(bytes_call(keyword, one_buffer(fields)?)),
-        Keyword::OfBytesNumber(keyword) => {
+        Keyword::OfBuffer(keyword) => Some(buffer_call(keyword, one_buffer(fields)?)),
+        Keyword::OfBufferNumber(keyword) => {
             let (sheet, entry) = buffer_and_number(fields)?;
-            Some(bytes_number_call(keyword, sheet, entry))
+            Some(buffer_number_call(keyword, sheet, entry))
         }
-        Keyword::OfTwoBytes(keyword) => {
+        Keyword::OfTwoBuffers(keyword) => {
             let (input, output) = two_buffers(fields)?;
-            Some(two_bytes_call(keyword, input, output))
+            Some(two_buffers_call(keyword, input, output))
         }
         Keyword::Run => run_call(fields),
         Keyword::Two => two_call(fields),

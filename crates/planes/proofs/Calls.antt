@@ -12,12 +12,7 @@ use Rattle.planes.specs.Planes.{planes_of, samples_of, arrange_number, arranged}
 use Rattle.planes.specs.Rows.{Kept, KeepsTheRest}
 use Rattle.planes.specs.RoundTrip.{Undoes, RoundTrip}
 use Rattle.planes.proofs.Grid.{length_rows, transposed_twice}
-use Rattle.planes.proofs.Rows.{taken, accepted}
-
--- an accepted call
-pub arranged_is : (f : ℕ → List ℕ → List ℕ) (s out : List ℕ) → arrange_number s out ≡ 0
-    → arranged f s out ≡ f (length s / 4) s ++ drop (length s) out
-arranged_is f s out z = rw z refl
+use Rattle.planes.proofs.Rows.{taken, accepted, arranged_is}
 
 module _ (f : ℕ → List ℕ → List ℕ) (long : (n : ℕ) (s : List ℕ) → length (f n s) ≡ 4 * n) where
   keeps : (s out : List ℕ) → Kept f s out

@@ -2,17 +2,17 @@
 use Prim.Native.Nat.{ℕ, ◌*◌, ◌/◌, ◌%◌, ◌≤◌, ◌<◌}
 use mathlib.Core.Path.{◌≡◌, refl}
 use mathlib.Core.Bool.{Bool, true, false, cond}
-use mathlib.Core.List.{[], ◌∷◌}
+use mathlib.Core.List.{List, [], ◌∷◌, ◌++◌}
 use mathlib.Core.Logic.{⊎_elim}
 use native.Mathlib.Omega.{arith}
 use borrow.Author.Tests.{eqb-true, eqb-false, ltb-true, ltb-false}
 use lib.Dec.{eqb, ltb}
-use lib.ListN.{length}
+use lib.ListN.{length, drop}
 use Rattle.std.proofs.lemmas.Bool.{cases_lt, cases_eq}
 use Rattle.filter_core.specs.Rows.{First, none, later}
 use Rattle.filter_core.proofs.Rows.{once, passed, exactly, Step, yes, no, step_if, step_to, first_then, first_last}
 use Rattle.lists.specs.Room.{room_refusal}
-use Rattle.planes.specs.Planes.{arrange_refusal}
+use Rattle.planes.specs.Planes.{arrange_refusal, arrange_number, arranged}
 use Rattle.planes.specs.Rows.{ArrangeCase, partial, short, ArrangeByRows}
 
 module _ (m places : ℕ) where
@@ -53,6 +53,11 @@ module _ (m places : ℕ) where
 
   pub accepted : m % 4 ≡ 0 → m ≤ places → arrange_refusal m places ≡ 0
   accepted w l = once number_row (later (λ c. partial_case refl c (m / 4) (omega arith)) (later (λ c. omega (arith, short_case refl c)) none))
+
+-- the output after an accepted call
+pub arranged_is : (f : ℕ → List ℕ → List ℕ) (s out : List ℕ) → arrange_number s out ≡ 0
+    → arranged f s out ≡ f (length s / 4) s ++ drop (length s) out
+arranged_is f s out z = rw z refl
 
 pub arrange_by_rows : ArrangeByRows
 arrange_by_rows =
