@@ -1,0 +1,12 @@
+use mathlib.Core.Path.{◌∙◌}
+use Rattle.trials.proofs.Choices.{first_here, first_refused, first_later}
+use Rattle.trials.proofs.first_call.Goals as goal
+
+pub returns-in_err-next : goal.returns-in_err-next
+returns-in_err-next c = c.from_residual.ensures ∙ first_refused _ _ _ _ c.loop-call.invariant c.loop-call-test.true c.after-next.ensures c.count-many.ensures c.if-place-many.true c.in_err-next.was
+
+pub returns-then-place-many : goal.returns-then-place-many
+returns-then-place-many c = first_here _ _ _ _ c.loop-call.invariant c.loop-call-test.true c.after-next.ensures c.count-many.ensures c.if-place-many.true c.in_ok-next.was
+
+pub loop-call-preserved : goal.loop-call-preserved
+loop-call-preserved c = first_later _ _ _ _ c.loop-call.invariant c.loop-call-test.true c.after-next.ensures c.count-many.ensures c.if-place-many.false
