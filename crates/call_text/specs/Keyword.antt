@@ -3,7 +3,7 @@ use Rattle.std.specs.Prelude.{ℕ, List, [], ◌∷◌, Result, map, ok_or, code
 use Rattle.std.proofs.Common.{Bor}
 use Rattle.form_text.specs.Name.{look_up}
 use Rattle.call_text.specs.declared.keyword.Keyword.{Keyword}
-use Rattle.call_text.specs.declared.keyword.Keyword.TheVariants.{Alone, OfHead, OfHeadNumber, OfBuffer, OfBufferNumber, OfTwoBuffers, Run, Two, Tell, Convert}
+use Rattle.call_text.specs.declared.keyword.Keyword.TheVariants.{Alone, OfHead, OfHeadNumber, OfBuffer, OfBufferNumber, OfTwoBuffers, Run, Two, Tell, Convert, Trial}
 use Rattle.call_text.specs.declared.keyword.Alone.TheVariants.{Begin, Turn}
 use Rattle.call_text.specs.declared.keyword.OfHead.TheVariants.{Rest, Mark, Head, Count}
 use Rattle.call_text.specs.declared.keyword.OfHeadNumber.TheVariants.{Load, Back, Drop}
@@ -39,6 +39,7 @@ keywords =
     ∷ (codes "convert", Convert)
     ∷ (codes "planes", OfTwoBuffers Planes)
     ∷ (codes "samples", OfTwoBuffers Samples)
+    ∷ (codes "trial", Trial)
     ∷ []
 
 abbrev pub keyword_of : List ℕ → Result Keyword BadLine

@@ -22,7 +22,7 @@ use Rattle.call_text.specs.declared.keyword.OfBufferNumber.TheVariants as of_buf
 use Rattle.call_text.specs.declared.keyword.OfTwoBuffers.{OfTwoBuffers}
 use Rattle.call_text.specs.declared.keyword.OfTwoBuffers.TheVariants as of_two_buffers
 use Rattle.call_text.specs.declared.line.Call.{Call}
-use Rattle.call_text.specs.declared.line.Call.TheVariants.{Open, Load, Run, Two, Rest, Mark, Back, Drop, Write, Check, Lookup, Head, Check1, Lookup1, Convert, Count, Begin, Take, Tell, Turn, Save, Restore, Planes, Samples}
+use Rattle.call_text.specs.declared.line.Call.TheVariants.{Open, Load, Run, Two, Rest, Mark, Back, Drop, Write, Check, Lookup, Head, Check1, Lookup1, Convert, Count, Begin, Take, Tell, Turn, Save, Restore, Planes, Samples, Trial}
 use Rattle.call_text.specs.declared.bad_line.BadLine.{BadLine}
 use Rattle.call_text.specs.declared.bad_line.BadLine.TheVariants.{NoCall, Words}
 
@@ -38,7 +38,7 @@ small n = cond (ltb 65535 n) None (Some n)
 abbrev pub small_number : List ℕ → Option ℕ
 small_number s = option_and_then small (number_of s)
 
--- HEAD
+-- HEAD, or the NUMBER of `trial`
 abbrev pub one_number : List (List ℕ) → Option ℕ
 one_number (h ∷ []) = number_of h
 one_number _ = None
@@ -130,6 +130,7 @@ call_for keyword.Run fields = run_call fields
 call_for keyword.Two fields = two_call fields
 call_for keyword.Tell fields = tell_call fields
 call_for keyword.Convert fields = convert_call fields
+call_for keyword.Trial fields = option_map Trial (one_number fields)
 
 -- an answer of `call_of`: none for a silent line
 abbrev pub Answer : Type 0 → Type 0
@@ -183,6 +184,7 @@ text_call (Save o) = Save o.now
 text_call (Restore b) = Restore b.now
 text_call (Planes s o) = Planes s.now o.now
 text_call (Samples p o) = Samples p.now o.now
+text_call (Trial n) = Trial n
 
 abbrev pub text_answer : Answer (Bor (List ℕ)) → Answer (List ℕ)
 text_answer (Ok call) = Ok (option_map text_call call)

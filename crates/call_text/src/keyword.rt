@@ -71,10 +71,11 @@ pub(crate) enum Keyword {
     Two,
     Tell,
     Convert,
+    Trial,
 }
 
 // They are tried in this order: first those that a job makes for each block of samples.
-const KEYWORDS: [(&[u8], Keyword); 24] = [
+const KEYWORDS: [(&[u8], Keyword); 25] = [
     (b"run", Keyword::Run),
     (b"two", Keyword::Two),
     (b"turn", Keyword::Alone(Alone::Turn)),
@@ -99,6 +100,7 @@ const KEYWORDS: [(&[u8], Keyword); 24] = [
     (b"convert", Keyword::Convert),
     (b"planes", Keyword::OfTwoBuffers(OfTwoBuffers::Planes)),
     (b"samples", Keyword::OfTwoBuffers(OfTwoBuffers::Samples)),
+    (b"trial", Keyword::Trial),
 ];
 
 // What stands beside a name in a table.

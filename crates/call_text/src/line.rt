@@ -88,6 +88,8 @@ pub enum Call<B> {
         planes: B,
         output: B,
     },
+    // the place of a trial routine (02 l)
+    Trial(usize),
 }
 
 // A NUMBER, if 16 bits hold it. A greater one is not cut to what they hold: its line is bad.
@@ -99,7 +101,7 @@ fn small_number(s: &[u8]) -> Option<u16>
 
 // Each reader below is of other words: one for any two words would be told how each is read, and be no shorter.
 
-// HEAD
+// HEAD, or the NUMBER of `trial`
 fn one_number(fields: Fields<'_>) -> Option<usize>
     ensures { result ≡ one_number (fields_left fields.entry) }
 {
@@ -284,6 +286,7 @@ fn call_for<'a>(keyword: Keyword, fields: Fields<'a>) -> Option<Call<&'a [u8]>>
         Keyword::Two => two_call(fields),
         Keyword::Tell => tell_call(fields),
         Keyword::Convert => convert_call(fields),
+        Keyword::Trial => Some(Call::Trial(one_number(fields)?)),
     }
 }
 

@@ -2,8 +2,8 @@
 
 use crate::faults;
 use crate::text::{
-    Output, put_bad_line, put_counted, put_head, put_keyword, put_number, put_part, put_run,
-    put_turn, put_two, put_written,
+    Output, put_bad_line, put_counted, put_head, put_keyword, put_number, put_part, put_routine,
+    put_run, put_turn, put_two, put_written,
 };
 use arrayvec::ArrayVec;
 use call_text::{BadLine, Call};
@@ -174,6 +174,7 @@ fn of_call(call: Call<&[u8]>, frame: &mut Frame, out: &mut Output) {
         ),
         Call::Planes { samples, output } => planes(samples, output, out),
         Call::Samples { planes, output } => samples(planes, output, out),
+        Call::Trial(place) => put_routine(out, trials::routine_at(place)),
     }
 }
 

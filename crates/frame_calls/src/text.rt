@@ -7,6 +7,7 @@ use form_text::Fields;
 use heads::Head;
 use rota::Grant;
 use std::io::Write;
+use trials::TrialCall;
 
 // The answers that wait and one more, the longest of which takes less than 32,768 bytes: so no writing to it fails.
 pub(crate) type Output = ArrayVec<u8, 40960>;
@@ -74,6 +75,39 @@ pub(crate) fn put_turn(out: &mut Output, grant: Option<Grant>) {
             let _ = write!(out, " {head} {samples}");
         }
         None => put(out, b" none"),
+    }
+    put(out, b"\n");
+}
+
+fn trial_word(call: TrialCall) -> &'static [u8] {
+    match call {
+        TrialCall::Load => b"load",
+        TrialCall::Mark => b"mark",
+        TrialCall::Back => b"back",
+        TrialCall::Drop => b"drop",
+        TrialCall::Rest => b"rest",
+    }
+}
+
+// The calls with commas between; `-` for none, as for a buffer of none.
+fn put_trial_calls(out: &mut Output, calls: &[TrialCall]) {
+    let [first, rest @ ..] = calls else {
+        put(out, b"-");
+        return;
+    };
+    put(out, trial_word(*first));
+    for call in rest {
+        put(out, b",");
+        put(out, trial_word(*call));
+    }
+}
+
+// A trial routine; `end` where its place is past the end. Neither is a refusal, so it has no number.
+pub(crate) fn put_routine(out: &mut Output, routine: Option<ArrayVec<TrialCall, 5>>) {
+    put(out, b" ");
+    match routine {
+        Some(calls) => put_trial_calls(out, calls.as_slice()),
+        None => put(out, b"end"),
     }
     put(out, b"\n");
 }
