@@ -7,6 +7,7 @@ use crate::lists::Frame;
 use crate::numbers::Numbers;
 use crate::planes::{self, Arrangement};
 use crate::text::{self, MOST_BYTES};
+use crate::trials;
 use oracle::{EXACT_LOWEST, MIRRORED};
 
 pub fn hex(bytes: &[u8]) -> String {
@@ -55,6 +56,16 @@ const KEPT: usize = 64;
 /// The two calls of 02 j; what the one writes, the other brings back.
 const ARRANGEMENTS: [(&str, Arrangement); 2] =
     [("planes", planes::planes), ("samples", planes::samples)];
+
+/// Places far past the last trial routine, some of which would not be if a byte or four of them were all that is read.
+const FAR: [u64; 6] = [
+    1 << 32,
+    (1 << 32) + 5,
+    1 << 63,
+    (1 << 63) + 253,
+    u64::MAX - 1,
+    u64::MAX,
+];
 
 pub struct Writer {
     numbers: Numbers,
@@ -432,6 +443,21 @@ impl Writer {
         Some(out)
     }
 
+    // A trial routine's place: the first, any, the last, the next behind it, one soon behind that, or one far past the end.
+    fn trial(&mut self) {
+        let number = trials::routines().len() as u64;
+        let place = match self.numbers.weighted(&[1, 5, 1, 1, 1, 1]) {
+            0 => 0,
+            1 => self.numbers.below(number),
+            2 => number - 1,
+            3 => number,
+            4 => number + 1 + self.numbers.below(4000),
+            _ => self.numbers.pick(&FAR),
+        };
+        let line = format!("trial {}", self.number(place));
+        self.line(&line);
+    }
+
     fn begin(&mut self) {
         self.line("begin");
     }
@@ -754,7 +780,7 @@ impl Writer {
     }
 
     fn bad_line(&mut self) {
-        const BAD: [&str; 95] = [
+        const BAD: [&str; 105] = [
             "x",
             " ",
             "open",
@@ -850,6 +876,16 @@ impl Writer {
             "samples 0000000 -",
             "samples - 0",
             "sample - -",
+            "trial",
+            "trial ",
+            "trial 0 0",
+            "trial  0",
+            "trial -",
+            "trial -1",
+            "trial 0x0",
+            "trial 18446744073709551616",
+            "trial 000000000000000000000",
+            "trials 0",
         ];
         match self.numbers.weighted(&[90, 8, 1, 1]) {
             0 => {
@@ -904,7 +940,7 @@ impl Writer {
         let head = self.head();
         match self.numbers.weighted(&[
             330, 130, 100, 60, 60, 35, 50, 40, 20, 20, 20, 20, 20, 20, 40, 5, 8, 6, 5, 4, 4, 6, 12,
-            16, 8,
+            16, 10, 8,
         ]) {
             0 => self.run(head, 1),
             1 => self.run(head, 2),
@@ -947,6 +983,7 @@ impl Writer {
             21 => self.close(),
             22 => return self.restore(),
             23 => return self.arrange(),
+            24 => self.trial(),
             _ => match self.numbers.weighted(&[80, 10, 9, 1]) {
                 0 => self.bad_line(),
                 1 => self.line(""),
@@ -1276,6 +1313,34 @@ pub fn arrangements() -> impl Iterator<Item = Vec<u8>> {
     })
 }
 
+/// Every place of a trial routine and as many as there are lists behind them, then each power of two with its neighbours; and each routine
+/// on a trial frame, its own line and those of its neighbours between its calls, which they leave alone.
+pub fn trial_places() -> impl Iterator<Item = Vec<u8>> {
+    let line = |place: u64| format!("trial {place}\n");
+    let powers = (0..64).map(|k| 1u64 << k);
+    let near = powers.flat_map(|power| [power - 1, power, power.saturating_add(1)]);
+    let places: String = (0..4000).chain(near).chain([u64::MAX]).map(line).collect();
+    let among = trials::routines()
+        .iter()
+        .enumerate()
+        .map(move |(place, calls)| {
+            let place = place as u64;
+            let mut text = format!("open {}\n", SHORT_SHEETS[0]);
+            for call in calls {
+                let mark = if ["load", "back", "drop"].contains(call) {
+                    " 0"
+                } else {
+                    ""
+                };
+                text.push_str(&format!("{call} 0{mark}\n"));
+                (place..place + 2).for_each(|place| text.push_str(&line(place)));
+                text.push_str("head 0\ncount 0\n");
+            }
+            text.into_bytes()
+        });
+    [places.into_bytes()].into_iter().chain(among)
+}
+
 /// The changes of a saved frame. Each is restored where the frame itself stands, or what the change before made of it, and what stands then
 /// is saved.
 pub fn frame_changes() -> impl Iterator<Item = Vec<u8>> {
@@ -1321,6 +1386,20 @@ fn arranged_samples() -> String {
         }
     }
     text
+}
+
+// All trial routines and places past the end, for the fixed list; and some between the calls of a head, which go on as if they were not there.
+fn trial_routines() -> String {
+    let number = trials::routines().len() as u64;
+    let line = |place: u64| format!("trial {place}\n");
+    let all: String = (0..number + 2).chain(FAR).map(line).collect();
+    let last = number - 1;
+    format!(
+        "\n# The trial routines, past the end, and among other calls.\n{all}\
+         open {}\nload 0 0\ntrial 5\nrun 0 plain:low 3f800000 00000000\nmark 0\ntrial {last}\n\
+         run 0 plain:low 3f800000 00000000\ntrial 00000000000000000{last}\nback 0 0\ntrial {number}\nhead 0\ncount 0\n",
+        SHORT_SHEETS[0]
+    )
 }
 
 /// The fixed list: a call of each kind with each answer that it gives, then a short random history.
@@ -1641,6 +1720,7 @@ pub fn sample(seed: u64) -> Vec<u8> {
     }
     text.push_str("convert 1 - -\nconvert 2 - ee\n");
     text.push_str(&arranged_samples());
+    text.push_str(&trial_routines());
     text.push_str("\n# Bad lines.\n");
     for _ in 0..40 {
         writer.text.clear();

@@ -12,3 +12,4 @@ pub mod planes;
 pub mod rota;
 pub mod sheets;
 pub mod text;
+pub mod trials;

@@ -6,6 +6,7 @@ use crate::filters::{type_of, word_of, Filter, Form, Mode, NAN};
 use crate::lists::Frame;
 use crate::planes::{self, Arrangement};
 use crate::sheets;
+use crate::trials;
 
 pub const LONGEST_LINE: usize = 65_535;
 const MOST_SAMPLES: usize = 1_024;
@@ -333,6 +334,25 @@ fn arrange(
     Some(())
 }
 
+// The routine at a place of 02 l, or that the place is past the end.
+fn trial(place: u64, counts: &mut Counts, to: &mut String) {
+    let number = trials::routines().len() as u64;
+    named("trial", counts, to);
+    counts.add_each(&[
+        ("trial of a routine", place < number),
+        ("trial of no calls", place == 0),
+        ("trial of the last routine", place == number - 1),
+        ("trial past the end", place >= number),
+        ("trial of the first place past the end", place == number),
+        ("trial far past the end", place > u64::from(u32::MAX)),
+    ]);
+    to.push_str(&match trials::routine(place) {
+        Some(calls) if calls.is_empty() => " -".to_string(),
+        Some(calls) => format!(" {}", calls.join(",")),
+        None => " end".to_string(),
+    });
+}
+
 fn put_part(name: &str, part: &[u8], counts: &mut Counts, to: &mut String) {
     named(name, counts, to);
     to.push(' ');
@@ -539,6 +559,7 @@ fn call(frame: &mut Frame, line: &[u8], counts: &mut Counts, to: &mut String) ->
         }
         [b"planes", input, out] => arrange("planes", planes::planes, input, out, counts, to)?,
         [b"samples", input, out] => arrange("samples", planes::samples, input, out, counts, to)?,
+        [b"trial", place] => trial(number(place)?, counts, to),
         [b"check", sheet, entry] => {
             let (_, _, refusal) = looked_at("check", sheets::check, sheet, entry, counts)?;
             numbered("check", refusal, counts, to);

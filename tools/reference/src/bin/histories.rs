@@ -1,6 +1,6 @@
 //! Gives histories to frame_calls and to the reference, and compares what they write byte for byte.
 //! `histories random --seed N --calls N --lines N`, `histories short|saves|rota|closings --length N`, `histories sheets`, `histories frames`,
-//! `histories planes`, `histories sample`.
+//! `histories planes`, `histories trials`, `histories sample`.
 //! A history gets a program of its own; the reference gets many, with `# fresh frame` between.
 
 use reference::closing::{LENGTH, RULES};
@@ -260,6 +260,10 @@ fn tried_enough(counts: &Counts) -> bool {
         "samples refused 19 before 12",
         "samples of no samples",
         "samples of 1,024 samples",
+        "trial of no calls",
+        "trial of the last routine",
+        "trial of the first place past the end",
+        "trial far past the end",
     ] {
         wanted.push(call.to_string());
     }
@@ -304,6 +308,8 @@ fn tried_enough(counts: &Counts) -> bool {
         "samples of another NaN",
         "samples with places left over",
         BROUGHT_BACK,
+        "trial of a routine",
+        "trial past the end",
     ];
     let mut enough = true;
     for (what, least) in wanted
@@ -439,6 +445,19 @@ fn summary(counts: &Counts) {
         rearranged(counts),
         counts.of(BROUGHT_BACK)
     );
+    println!("{}", tried(counts));
+}
+
+fn tried(counts: &Counts) -> String {
+    format!(
+        "trial routines {}, the one of no calls {}, the last {}; past the end {}, by one {}, far {}",
+        counts.of("trial of a routine"),
+        counts.of("trial of no calls"),
+        counts.of("trial of the last routine"),
+        counts.of("trial past the end"),
+        counts.of("trial of the first place past the end"),
+        counts.of("trial far past the end"),
+    )
 }
 
 fn rearranged(counts: &Counts) -> String {
@@ -529,6 +548,15 @@ fn main() {
             );
             println!("{}", rearranged(&comparison.counts));
         }
+        Some("trials") => {
+            comparison.all(histories::trial_places(), 64);
+            println!(
+                "histories: places of trial routines, and each routine on a trial frame, {} calls, {:.1} s: no difference",
+                comparison.counts.of("calls"),
+                start.elapsed().as_secs_f64()
+            );
+            println!("{}", tried(&comparison.counts));
+        }
         Some("sample") => {
             use std::io::Write;
             std::io::stdout()
@@ -538,7 +566,7 @@ fn main() {
         other => {
             let Some(alphabet) = other.and_then(Alphabet::named) else {
                 eprintln!(
-                    "histories: random, short, saves, rota, closings, sheets, frames, planes or sample"
+                    "histories: random, short, saves, rota, closings, sheets, frames, planes, trials or sample"
                 );
                 exit(2);
             };
