@@ -43,39 +43,49 @@ record Chosen (s : State) (n : ℕ) (cs : List TrialCall) (p : ℕ) (r : TrialCa
   list : get_or (begun (behind s n) cs) p [] ≡ r.0 ∷ get_or (routines_from (Some r.1) n) r.2 []
 
 module _ (s : State) (n : ℕ) where
+  long : (c : TrialCall) → length (map (λ l. c ∷ l) (behind s n c)) ≡ length (behind s n c)
+  long c = length-map (behind s n c) (λ l. c ∷ l)
+
+  -- it is among those of the first call, or behind them
+
+  list_here :
+      (c : TrialCall) (cs : List TrialCall) (p : ℕ) (t : State)
+      → p < length (behind s n c)
+      → after s c ≡ Some t
+      → get_or (begun (behind s n) (c ∷ cs)) p [] ≡ c ∷ get_or (routines_from (Some t) n) p []
+  list_here c cs p t h e =
+      get_or_append_left (map (λ l. c ∷ l) (behind s n c)) (begun (behind s n) cs) [] p (omega (arith, long c))
+      ∙ (get_or-map (λ l. c ∷ l) (behind s n c) p [] [] h ∙ ap (λ (o : Option State). c ∷ get_or (routines_from o n) p []) e)
+
+  chosen_later :
+      (c : TrialCall) (cs : List TrialCall) (p : ℕ) (r : TrialCall × State × ℕ)
+      → length (behind s n c) ≤ p
+      → Chosen s n cs (p - length (behind s n c)) r
+      → Chosen s n (c ∷ cs) p r
+  unfolding first_among
+  chosen_later c cs p r h q =
+      record {
+        first = rw (le-ltb p (length (behind s n c)) h) q.first;
+        inside = q.inside;
+        list = get_or-append_right (map (λ l. c ∷ l) (behind s n c)) (begun (behind s n) cs) (length (behind s n c)) p [] (long c) h ∙ q.list;
+      }
+
   chosen : (cs : List TrialCall) (p : ℕ) → p < length (begun (behind s n) cs) → (r : TrialCall × State × ℕ) × Chosen s n cs p r
   unfolding first_among
   chosen [] p h = absurd (omega arith)
   chosen (c ∷ cs) p h = go (ltb p (length (behind s n c))) refl (after s c) refl (chosen cs (p - length (behind s n c)))
     where
-      long : length (map (λ l. c ∷ l) (behind s n c)) ≡ length (behind s n c)
-      long = length-map (behind s n c) (λ l. c ∷ l)
-
       go : (b : Bool) → ltb p (length (behind s n c)) ≡ b → (o : Option State) → after s c ≡ o
           → (p - length (behind s n c) < length (begun (behind s n) cs) → (r : TrialCall × State × ℕ) × Chosen s n cs (p - length (behind s n c)) r)
           → (r : TrialCall × State × ℕ) × Chosen s n (c ∷ cs) p r
       go true l None e next = absurd (omega (arith, ltb-true p (length (behind s n c)) l, none_behind (after s c) n e))
       go true l (Some t) e next =
-          let inside = ltb-true p (length (behind s n c)) l in (
-            (c, t, p),
-            record {
-              first = rw (l, e) refl;
-              inside = rw e at inside;
-              list =
-                  get_or_append_left (map (λ l. c ∷ l) (behind s n c)) (begun (behind s n) cs) [] p (omega (arith, long))
-                  ∙ (get_or-map (λ l. c ∷ l) (behind s n c) p [] [] inside ∙ ap (λ (o : Option State). c ∷ get_or (routines_from o n) p []) e);
-            },
-          )
+          let here = ltb-true p (length (behind s n c)) l in
+          ((c, t, p), record { first = rw (l, e) refl; inside = rw e at here; list = list_here c cs p t here e })
       go false l o e next =
           let past = ltb-false p (length (behind s n c)) l in
-          let k = next (omega (arith, long, length-append (map (λ l. c ∷ l) (behind s n c)) (begun (behind s n) cs))) in (
-            k.0,
-            record {
-              first = rw l k.1.first;
-              inside = k.1.inside;
-              list = get_or-append_right (map (λ l. c ∷ l) (behind s n c)) (begun (behind s n) cs) (length (behind s n c)) p [] long past ∙ k.1.list;
-            },
-          )
+          let k = next (omega (arith, long c, length-append (map (λ l. c ∷ l) (behind s n c)) (begun (behind s n) cs))) in
+          (k.0, chosen_later c cs p k.0 past k.1)
 
 -- ---- as `list_at` walks down
 
@@ -108,11 +118,11 @@ module _ {n place : ℕ} {cs : List TrialCall} {s : State} {k p : ℕ} (w : Walk
         long = omega (arith, w.long, length-append cs (r.0 ∷ []));
       }
 
-  pub walked_more : (r : TrialCall × State × ℕ) → 0 < k → Some r ≡ first_among s (k - 1) calls p → Walked n place (cs ++ r.0 ∷ []) r.1 (k - 1) r.2
-  walked_more r h e =
-      let q = step h in
-      let same : r ≡ q.0 = ap (λ o. unwrap_or o r) (e ∙ q.1.first) in
-      subst (λ x. Walked n place (cs ++ x.0 ∷ []) x.1 (k - 1) x.2) (sym same) (walked_by h q.0 q.1)
+  pub walked_more : (c : TrialCall) (t : State) (q : ℕ) (ds : List TrialCall) → 0 < k → Some (c, t, q) ≡ first_among s (k - 1) calls p → ds ≡ cs ++ c ∷ [] → Walked n place ds t (k - 1) q
+  walked_more c t q ds h e f =
+      let r = step h in
+      let same : (c, t, q) ≡ r.0 = ap (λ o. unwrap_or o (c, t, q)) (e ∙ r.1.first) in
+      rw f (subst (λ x. Walked n place (cs ++ x.0 ∷ []) x.1 (k - 1) x.2) (sym same) (walked_by h r.0 r.1))
 
   pub walked_not_none : 0 < k → None ≡ first_among s (k - 1) calls p → ⊥
   walked_not_none h e = none-some _ (e ∙ (step h).1.first)

@@ -1,7 +1,7 @@
 -- How many lists go on from a state, counted call by call. Assumes nothing.
-use Prim.Native.Nat.{ℕ, zero, suc, ◌+◌, ◌-◌, ◌≤◌, ◌<◌}
+use Prim.Native.Nat.{◌*◌, ℕ, zero, suc, ◌+◌, ◌-◌, ◌≤◌, ◌<◌}
 use mathlib.Core.Path.{◌≡◌, refl, ap, sym}
-use mathlib.Core.List.{List, ◌∷◌, map}
+use mathlib.Core.List.{List, [], ◌∷◌, map}
 use native.Mathlib.Omega.{arith}
 use lib.ListN.{length, get_or, drop, length-append, length-map}
 use Rattle.std.specs.Prelude.{Option, None, Some, ◌^◌}
@@ -9,7 +9,6 @@ use Rattle.std.proofs.lemmas.List.{drop_more}
 use Rattle.trials.specs.Calls.{calls}
 use Rattle.trials.specs.Counting.{after, begun, routines_from}
 use Rattle.trials.specs.declared.TrialCall.{TrialCall}
-use Rattle.trials.specs.declared.TrialCall.TheVariants.{Load, Mark, Back, Drop, Rest}
 use Rattle.trials.specs.declared.State.{State}
 
 -- the lists of n calls that go on behind a call
@@ -26,24 +25,23 @@ left_more s n i d o h e =
     let c = get_or calls i d in
     rw (e, drop_more calls i d h, length-append (map (λ l. c ∷ l) (routines_from (after s c) n)), length-map (routines_from (after s c) n))
 
+-- at most m lists behind each call are at most m for each
+begun_most : (s : State) (n m : ℕ) → ((o : Option State) → length (routines_from o n) ≤ m) → (cs : List TrialCall) → length (begun (behind s n) cs) ≤ length cs * m
+begun_most s n m h [] = omega arith
+begun_most s n m h (c ∷ cs) =
+    omega (
+      arith,
+      length-append (map (λ l. c ∷ l) (behind s n c)) (begun (behind s n) cs),
+      length-map (behind s n c) (λ l. c ∷ l),
+      h (after s c),
+      begun_most s n m h cs,
+    )
+
 most : (n : ℕ) (o : Option State) → length (routines_from o n) ≤ 5 ^ n
 unfolding routines_from
 most n None = omega arith
 most zero (Some s) = omega arith
-most (suc n) (Some s) =
-    omega (
-      arith,
-      left_more s n 0 Load (after s Load) (omega arith) refl,
-      left_more s n 1 Load (after s Mark) (omega arith) refl,
-      left_more s n 2 Load (after s Back) (omega arith) refl,
-      left_more s n 3 Load (after s Drop) (omega arith) refl,
-      left_more s n 4 Load (after s Rest) (omega arith) refl,
-      most n (after s Load),
-      most n (after s Mark),
-      most n (after s Back),
-      most n (after s Drop),
-      most n (after s Rest),
-    )
+most (suc n) (Some s) = omega (arith, begun_most s n (5 ^ n) (most n) calls)
 
 small : (n : ℕ) → n ≤ 5 → 5 ^ n ≤ 3125
 small zero l = omega arith

@@ -82,14 +82,13 @@ fn count(state: Option<State>, n: usize) -> usize
     total
 }
 
-#[tactic(auto, using(crate::proofs::Choices::first_here, crate::proofs::Choices::first_refused, crate::proofs::Choices::first_later, crate::proofs::Choices::first_none))]
 // The first call of the list at a place among those of `left` + 1 calls, the state behind it, and the list's place among those that go on
 // from there.
-fn first_call(state: State, left: usize, place: usize) -> Option<(TrialCall, State, usize)>
+#[tactic(auto, using(crate::proofs::Choices::first_none))]
+fn first_call(state: State, left: usize, mut place: usize) -> Option<(TrialCall, State, usize)>
     requires { left ≤ 4 }
     ensures { result ≡ first_among state left calls place }
 {
-    let mut place = place;
     for call in CALLS {
         let next = after(state, call);
         let many = count(next, left);
@@ -101,15 +100,15 @@ fn first_call(state: State, left: usize, place: usize) -> Option<(TrialCall, Sta
     None
 }
 
-// The list at a place among those of so many calls.
-fn list_at(n: usize, place: usize) -> ArrayVec<TrialCall, 5>
+// The list at a place among those of n calls. Each step finds its call, since there are so many lists.
+#[tactic(auto, using(crate::proofs::Choices::walked_none, crate::proofs::Choices::walked_all, crate::proofs::Choices::walked_not_none))]
+fn list_at(n: usize, mut place: usize) -> ArrayVec<TrialCall, 5>
     requires few { n ≤ 5 }
     requires there { place < length (routines_from (Some empty) n) }
     ensures { result.items ≡ get_or (routines_from (Some empty) n) place [] }
 {
     let mut calls = ArrayVec::new();
     let mut state = EMPTY;
-    let mut place = place;
     for left in (0..n).rev() {
         let Some((call, next, within)) = first_call(state, left, place) else {
             return calls;
@@ -122,10 +121,10 @@ fn list_at(n: usize, place: usize) -> ArrayVec<TrialCall, 5>
 }
 
 // The routine at a place, counted from 0; None past the end.
-pub fn routine_at(place: usize) -> Option<ArrayVec<TrialCall, 5>>
+#[tactic(auto, using(crate::proofs::Places::among_all, crate::proofs::Places::among_here, crate::proofs::Places::among_later))]
+pub fn routine_at(mut place: usize) -> Option<ArrayVec<TrialCall, 5>>
     ensures { option_map (λ calls. calls.items) result ≡ routine_at place }
 {
-    let mut place = place;
     for n in 0..6 {
         let many = count(Some(EMPTY), n);
         if place < many {

@@ -1,3 +1,4 @@
+-- No plainer: named by `using`, the laws do not prove these, since they speak of a state and a place that the goals do not name.
 use mathlib.Core.Path.{◌∙◌}
 use Rattle.trials.proofs.Choices.{first_here, first_refused, first_later}
 use Rattle.trials.proofs.first_call.Goals as goal
