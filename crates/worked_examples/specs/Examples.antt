@@ -1,6 +1,6 @@
 -- The worked examples of document 01, and those for requests of 02, a row each, about the definitions that the contracts cite.
 -- An output buffer is lent full of `kept`, so that the places that a form leaves alone show.
-use Rattle.std.specs.Prelude.{◌≡◌, ℕ, List, [], ◌∷◌, ◌++◌, length, drop, map, replicate, Float, None, Some}
+use Rattle.std.specs.Prelude.{◌≡◌, ℕ, List, [], ◌∷◌, ◌++◌, length, take, drop, map, replicate, Float, None, Some}
 use Rattle.std.specs.Float.{nan}
 use Rattle.filter_core.specs.Arithmetic.{word, zeroᶠ, halfᶠ, oneᶠ, negᶠ}
 use Rattle.filter_core.specs.Buffer.{Filtered, buffer_after, each, puts, each_due, puts_due}
@@ -38,6 +38,8 @@ use Rattle.heads.specs.Snapshot.{count_refusal, holds}
 use Rattle.rota.specs.Call.{tell, turn, of_tell, of_turn}
 use Rattle.frame.specs.Call.{Call, opening, loading, at, beginning, taking, at_rota, saving_heads, restoring_heads, Reply, plain, wrote, acted, of_rota}
 use Rattle.frame.specs.History.{no_histories, replies_to}
+use Rattle.trials.specs.Routines.{routines, routine_at}
+use Rattle.trials.specs.declared.TrialCall.TheVariants.{Load, Mark, Back, Drop, Rest}
 
 -- ---- the numbers
 
@@ -407,3 +409,11 @@ pub record WorkedExamples : Type 0 where
   pub planes_partial : arrange_number (replicate 3 0) [] ≡ 19
   pub planes_short : arrange_number two_samples (replicate 7 0) ≡ 12
   pub planes_of_none : arrange_number [] [] ≡ 0
+  -- document 02, l: nothing but a load is accepted by an empty head, and no back or drop before a mark. Behind the first back stands the first drop.
+  -- They are 254; the last has four rests, and the places from 254 on have none
+  pub trials_first : take 5 routines ≡ [] ∷ (Load ∷ []) ∷ (Load ∷ Load ∷ []) ∷ (Load ∷ Mark ∷ []) ∷ (Load ∷ Rest ∷ []) ∷ []
+  pub trial_back : routine_at 10 ≡ Some (Load ∷ Mark ∷ Back ∷ [])
+  pub trial_drop : routine_at 11 ≡ Some (Load ∷ Mark ∷ Drop ∷ [])
+  pub trial_count : length routines ≡ 254
+  pub trial_last : routine_at 253 ≡ Some (Load ∷ Rest ∷ Rest ∷ Rest ∷ Rest ∷ [])
+  pub trial_end : routine_at 254 ≡ None

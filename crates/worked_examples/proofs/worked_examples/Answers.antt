@@ -17,10 +17,12 @@ use Rattle.rota.specs.History.{account, last_served}
 use Rattle.saved_heads.specs.Row.{row_of, snapshot_in}
 use Rattle.saved_heads.specs.Bytes.{row_at, rows_from, with_row}
 use Rattle.frame.specs.History.{replies_to, reply_to, advance, call_number}
+use Rattle.trials.specs.Calls.{opened, none_refused}
+use Rattle.trials.specs.Routines.{lists_of, routines, routine_at}
 use Rattle.worked_examples.proofs.worked_examples.Goals as goal
 
 pub returns : goal.returns
-unfolding rows of_bits add sub mul div neg lt le is_nan first_refusal entry_refusal over table filter_for through first_output replies_to reply_to advance call_number zero_bytes type_from since_from samples_in snapshot_from ring_after account last_served to_bits row_of snapshot_in row_at rows_from with_row svf_next svf_out svf_mixed naive_low naive_high naive_next naive_out modified_next modified_out crossover_next crossover_out
+unfolding rows of_bits add sub mul div neg lt le is_nan first_refusal entry_refusal over table filter_for through first_output replies_to reply_to advance call_number opened none_refused lists_of routines routine_at zero_bytes type_from since_from samples_in snapshot_from ring_after account last_served to_bits row_of snapshot_in row_at rows_from with_row svf_next svf_out svf_mixed naive_low naive_high naive_next naive_out modified_next modified_out crossover_next crossover_out
 returns c =
     record {
       dc_blocker = refl;
@@ -74,4 +76,10 @@ returns c =
       planes_partial = refl;
       planes_short = refl;
       planes_of_none = refl;
+      trials_first = refl;
+      trial_back = refl;
+      trial_drop = refl;
+      trial_count = refl;
+      trial_last = refl;
+      trial_end = refl;
     }
