@@ -1,4 +1,4 @@
--- Whether a call is refused depends on the state alone: the histories of head 0 and the state go on together. Assumes nothing.
+-- A state says of head 0's history what the numbers of these calls go by, and keeps saying it from call to call. Assumes nothing.
 use Prim.Native.Nat.{ℕ, zero, suc, ◌+◌}
 use mathlib.Core.Path.{◌≡◌, refl, sym, subst, ◌∙◌}
 use mathlib.Core.Bool.{Bool, true, false, cond}
@@ -8,7 +8,7 @@ use lib.ListN.{length, length-append}
 use lib.Dec.{leb-suc-zero}
 use Rattle.std.proofs.lemmas.Bool.{lt-ltb}
 use Rattle.std.specs.Prelude.{Option, None, Some, filter, flat_map, eqb, ltb, not}
-use lib.Ieee.{of_bits, is_nan}
+use lib.Ieee.{of_bits, is_nan, lt, le, neg}
 use Rattle.sheets.specs.Refusal.{first_refusal, entry_refusal}
 use Rattle.sheets.specs.Sheet.{entries_of, entry_in, check_of}
 use Rattle.heads.specs.Act.{mark, back, drop, rest}
@@ -173,7 +173,7 @@ module _ (s : List ℕ) (z : check_of s ≡ 0) (o : entries_of s ≡ 1) where
   opened_agrees n = rw opened_is (agree n empty (record no_histories { sheet = s }) o says_empty)
 
 pub trial_sheet_accepted : check_of trial_sheet ≡ 0
-unfolding first_refusal entry_refusal of_bits is_nan
+unfolding first_refusal entry_refusal of_bits is_nan lt le neg
 trial_sheet_accepted = refl
 
 pub any_sheet : (s : List ℕ) → check_of s ≡ 0 → entries_of s ≡ 1 → (cs : List TrialCall) → none_refused (opened s) cs ≡ none_refused (opened trial_sheet) cs

@@ -1,9 +1,10 @@
--- What the histories refuse is what the frame refuses, by demand 3. Assumes nothing.
+-- The frame refuses as the histories do: demand 3, of these calls. Assumes nothing.
 use Prim.Native.Nat.{ℕ}
 use mathlib.Core.Path.{◌≡◌, refl, sym}
 use mathlib.Core.Bool.{Bool, true, false, cond}
 use mathlib.Core.List.{List, [], ◌∷◌, map}
 use Rattle.std.specs.Prelude.{eqb}
+use Rattle.sheets.specs.Sheet.{check_of}
 use Rattle.frame.specs.Call.{opening, number_in, refused}
 use Rattle.frame.specs.Calls.{fresh_frame}
 use Rattle.frame.specs.Demand.{replies_from, Demand3}
@@ -42,9 +43,9 @@ unfolding none_refused replies_to
 by_replies H [] = refl
 by_replies H (c ∷ cs) = rw (reply_number H c, by_replies (advance H (frame_call c)) cs) refl
 
-on_frame : (cs : List TrialCall) → none_refused (opened trial_sheet) cs ≡ all_accepted (replies_from fresh_frame (opening trial_sheet ∷ map frame_call cs))
+on_frame : (s : List ℕ) → check_of s ≡ 0 → (cs : List TrialCall) → none_refused (opened s) cs ≡ all_accepted (replies_from fresh_frame (opening s ∷ map frame_call cs))
 unfolding Demand3 replies_to reply_to call_number opened
-on_frame cs = rw (demand3 (opening trial_sheet ∷ map frame_call cs)).replies (rw trial_sheet_accepted (by_replies (opened trial_sheet) cs))
+on_frame s z cs = rw (demand3 (opening s ∷ map frame_call cs)).replies (rw z (by_replies (opened s) cs))
 
 pub on_trial_frame : OnTrialFrame
 on_trial_frame =

@@ -1,107 +1,149 @@
--- The theorem: what stands at each place, and the order, by one test each over all routines; that each list stands, by where it stands among
--- all lists. Assumes nothing.
+-- That every routine has one place, in order: all are looked at once, each with those behind it, and each is found among all lists. Assumes
+-- nothing.
 use Prim.Native.Nat.{ℕ, zero, suc, ◌≤◌, ◌<◌}
-use mathlib.Core.Path.{◌≡◌, refl, sym, ◌∙◌}
-use mathlib.Core.Bool.{Bool, true, false, true≢false, and-false}
+use mathlib.Core.Path.{◌≡◌, refl, ap, sym, subst, ◌∙◌}
+use mathlib.Core.Bool.{Bool, true, false, true≢false, ◌&&◌, ◌||◌, and-false}
 use mathlib.Core.List.{List, [], ◌∷◌, map}
+use mathlib.Core.Logic.{⊎_elim}
 use native.Mathlib.Omega.{arith}
-use lib.ListN.{length}
-use Rattle.std.specs.Prelude.{None, Some, ltb, leb, eqb, flat_map}
+use lib.ListN.{length, get_or}
+use Rattle.std.specs.Prelude.{None, Some, eqb, ltb, leb, filter, flat_map, Contains}
 use Rattle.std.specs.List.{slice_get, list_all}
-use Rattle.std.proofs.lemmas.Bool.{le-ltb, leb-true, ltb-true, ltb-false}
-use Rattle.std.proofs.lemmas.Option.{none-some, slice_get_past, slice_get-get_or}
+use Rattle.std.proofs.lemmas.Bool.{or_parts, eq-eqb, le-ltb, leb-true, ltb-true, ltb-false}
+use Rattle.std.proofs.lemmas.List.Elements.{filter_passes}
+use Rattle.std.proofs.lemmas.List.Sums.{AllPass-from_list_all}
+use Rattle.std.proofs.lemmas.Option.{none-some, slice_get_past, slice_get_within, slice_get_read, slice_get_cases, get_or_from_slice_get}
 use Rattle.trials.specs.Calls.{calls, trial_sheet, opened, none_refused}
 use Rattle.trials.specs.Routines.{lists_of, lengths, routines, routine_at}
 use Rattle.trials.specs.Counting.{routines_from}
 use Rattle.trials.specs.Order.{rank, earlier, smaller, Trial, InOrder}
 use Rattle.trials.specs.declared.TrialCall.{TrialCall}
 use Rattle.trials.specs.declared.TrialCall.TheVariants.{Load, Mark, Back, Drop, Rest}
-use Rattle.trials.proofs.Lists.{Stands, filter_passes, stands_filter, stands_map, stands_flat_map, list_all_at, all_pairs, all_pairs_at}
+use Rattle.trials.proofs.Lists.{contains_filter, contains_map, contains_flat_map, pairs_pass, AllPairs-from_pairs_pass}
 use Rattle.trials.proofs.Places.{of_length, routines_are}
 
--- ---- by one test each
+-- ---- what a look at all of them shows
 
-abbrev all_routines : List (List TrialCall)
-all_routines = flat_map of_length lengths
+abbrev counted : List (List TrialCall)
+counted = flat_map of_length lengths
 
 abbrev short : List TrialCall → Bool
 short cs = leb (length cs) 5
 
-all_short : list_all short all_routines ≡ true
+all_short : list_all short counted ≡ true
 unfolding routines_from
 all_short = refl
 
-all_ordered : all_pairs smaller all_routines ≡ true
+all_ordered : pairs_pass smaller counted ≡ true
 unfolding routines_from
 all_ordered = refl
 
--- ---- what stands at a place
+-- ---- a place has a routine, or is past their end
+
+-- what holds of all holds of the one at a place
+at_place : (P : List TrialCall → Type 0) (l : List (List TrialCall)) (p : ℕ) (cs : List TrialCall) → slice_get l p ≡ Some cs → ((k : ℕ) (d : List TrialCall) → k < length l → P (get_or l k d)) → P cs
+at_place P l p cs e h = subst P (get_or_from_slice_get l p cs cs e) (h p cs (slice_get_within l p cs e))
 
 sound : (p : ℕ) (cs : List TrialCall) → routine_at p ≡ Some cs → Trial cs
 unfolding routine_at routines
 sound p cs e =
+    let f = none_refused (opened trial_sheet) in
     record {
-      at_most_five = leb-true (length cs) 5 (list_all_at short all_routines p cs all_short (rw routines_are at e));
-      accepted = filter_passes (none_refused (opened trial_sheet)) (flat_map lists_of lengths) p cs e;
+      at_most_five = leb-true (length cs) 5 (at_place (λ l. short l ≡ true) counted p cs (rw routines_are at e) (AllPass-from_list_all short counted all_short));
+      accepted = at_place (λ l. f l ≡ true) (filter f (flat_map lists_of lengths)) p cs e (filter_passes f (flat_map lists_of lengths));
     }
 
--- ---- a list stands
+past_end : (p : ℕ) → slice_get routines p ≡ None → length routines ≤ p
+past_end p n = ⊎_elim (λ k. absurd (none-some k.0 (sym n ∙ k.2))) (λ k. k.0) (slice_get_cases routines p).1
 
-calls_stand : (c : TrialCall) → Stands calls c
-calls_stand Load = (0, refl)
-calls_stand Mark = (1, refl)
-calls_stand Back = (2, refl)
-calls_stand Drop = (3, refl)
-calls_stand Rest = (4, refl)
+-- ---- a routine has a place
 
-lists_stand : (cs : List TrialCall) → Stands (lists_of (length cs)) cs
+has_call : (c : TrialCall) → Contains calls c
+has_call Load = (0, omega arith, refl)
+has_call Mark = (1, omega arith, refl)
+has_call Back = (2, omega arith, refl)
+has_call Drop = (3, omega arith, refl)
+has_call Rest = (4, omega arith, refl)
+
+has_length : (n : ℕ) → n ≤ 5 → Contains lengths n
+has_length zero l = (0, omega arith, refl)
+has_length (suc zero) l = (1, omega arith, refl)
+has_length (suc (suc zero)) l = (2, omega arith, refl)
+has_length (suc (suc (suc zero))) l = (3, omega arith, refl)
+has_length (suc (suc (suc (suc zero)))) l = (4, omega arith, refl)
+has_length (suc (suc (suc (suc (suc zero))))) l = (5, omega arith, refl)
+has_length (suc (suc (suc (suc (suc (suc n)))))) l = absurd (omega arith)
+
+has_list : (cs : List TrialCall) → Contains (lists_of (length cs)) cs
 unfolding lists_of
-lists_stand [] = (0, refl)
-lists_stand (c ∷ cs) = stands_flat_map (λ d. map (λ l. d ∷ l) (lists_of (length cs))) calls (calls_stand c) (stands_map (λ l. c ∷ l) (lists_of (length cs)) (lists_stand cs))
+has_list [] = (0, omega arith, refl)
+has_list (c ∷ cs) =
+    contains_flat_map (λ d. map (λ l. d ∷ l) (lists_of (length cs))) calls c (c ∷ cs) (has_call c)
+    (contains_map (λ l. c ∷ l) (lists_of (length cs)) cs (has_list cs))
 
-lengths_stand : (n : ℕ) → n ≤ 5 → Stands lengths n
-lengths_stand zero l = (0, refl)
-lengths_stand (suc zero) l = (1, refl)
-lengths_stand (suc (suc zero)) l = (2, refl)
-lengths_stand (suc (suc (suc zero))) l = (3, refl)
-lengths_stand (suc (suc (suc (suc zero)))) l = (4, refl)
-lengths_stand (suc (suc (suc (suc (suc zero))))) l = (5, refl)
-lengths_stand (suc (suc (suc (suc (suc (suc n)))))) l = absurd (omega arith)
+complete : (cs : List TrialCall) → Trial cs → (p : ℕ) × (routine_at p ≡ Some cs)
+unfolding routine_at routines
+complete cs t =
+    let k = contains_filter (none_refused (opened trial_sheet)) (flat_map lists_of lengths) cs t.accepted (contains_flat_map lists_of lengths (length cs) cs (has_length (length cs) t.at_most_five) (has_list cs)) in
+    (k.0, slice_get_read routines (length routines) k.0 cs refl k.1 (sym k.2))
 
-complete : (cs : List TrialCall) → Trial cs → Stands routines cs
-unfolding routines
-complete cs t = stands_filter (none_refused (opened trial_sheet)) (flat_map lists_of lengths) t.accepted (stands_flat_map lists_of lengths (lengths_stand (length cs) t.at_most_five) (lists_stand cs))
+-- ---- the order
 
--- ---- no list stands before itself
+ordered : (p q : ℕ) (cs ds : List TrialCall) → routine_at p ≡ Some cs → routine_at q ≡ Some ds → p < q → smaller cs ds ≡ true
+unfolding routine_at
+ordered p q cs ds e f h =
+    let i = rw routines_are at e in
+    let j = rw routines_are at f in
+    rw (get_or_from_slice_get counted p cs [] i, get_or_from_slice_get counted q ds [] j) at
+    (AllPairs-from_pairs_pass smaller counted all_ordered p q [] h (slice_get_within counted q ds j))
 
 not_earlier : (cs : List TrialCall) → earlier cs cs ≡ false
 not_earlier [] = refl
 not_earlier (c ∷ cs) = rw (le-ltb (rank c) (rank c) (omega arith), not_earlier cs) (and-false (eqb (rank c) (rank c)))
 
-not_smaller : (cs : List TrialCall) → smaller cs cs ≡ false
-not_smaller cs = rw (le-ltb (length cs) (length cs) (omega arith), not_earlier cs) (and-false (eqb (length cs) (length cs)))
+strict : (cs : List TrialCall) → smaller cs cs ≡ false
+strict cs = rw (le-ltb (length cs) (length cs) (omega arith), not_earlier cs) (and-false (eqb (length cs) (length cs)))
 
-ordered : (p q : ℕ) (cs ds : List TrialCall) → routine_at p ≡ Some cs → routine_at q ≡ Some ds → p < q → smaller cs ds ≡ true
-unfolding routine_at
-ordered p q cs ds e f l = all_pairs_at smaller all_routines p q cs ds all_ordered l (rw routines_are at e) (rw routines_are at f)
+with_rank : (c : TrialCall) → get_or calls (rank c) Load ≡ c
+with_rank Load = refl
+with_rank Mark = refl
+with_rank Back = refl
+with_rank Drop = refl
+with_rank Rest = refl
 
+same_rank : (c d : TrialCall) → rank c ≡ rank d → c ≡ d
+same_rank c d e = sym (with_rank c) ∙ ap (λ (n : ℕ). get_or calls n Load) e ∙ with_rank d
+
+-- neither of two numbers is the smaller, so they are equal, and what comes behind decides
+neither : (m n : ℕ) (a b : Bool) → ltb m n || (eqb m n && a) ≡ false → ltb n m || (eqb n m && b) ≡ false → (m ≡ n) × (a ≡ false) × (b ≡ false)
+neither m n a b e f =
+    let x = or_parts (ltb m n) (eqb m n && a) e in
+    let y = or_parts (ltb n m) (eqb n m && b) f in
+    let s : m ≡ n = omega (arith, ltb-false m n x.0, ltb-false n m y.0) in
+    (s, rw (eq-eqb m n s) at x.1, rw (eq-eqb n m (sym s)) at y.1)
+
+neither_earlier : (cs ds : List TrialCall) → length cs ≡ length ds → earlier cs ds ≡ false → earlier ds cs ≡ false → cs ≡ ds
+neither_earlier [] [] l e f = refl
+neither_earlier [] (d ∷ ds) l e f = absurd (omega arith)
+neither_earlier (c ∷ cs) [] l e f = absurd (omega arith)
+neither_earlier (c ∷ cs) (d ∷ ds) l e f =
+    let k = neither (rank c) (rank d) (earlier cs ds) (earlier ds cs) e f in
+    (λ t. same_rank c d k.0 t ∷ neither_earlier cs ds (omega arith) k.1 k.2 t)
+
+total : (cs ds : List TrialCall) → smaller cs ds ≡ false → smaller ds cs ≡ false → cs ≡ ds
+total cs ds e f = let k = neither (length cs) (length ds) (earlier cs ds) (earlier ds cs) e f in neither_earlier cs ds k.0 k.1 k.2
+
+-- whichever of two places is the lower, its list would be smaller than itself
 once : (p q : ℕ) (cs : List TrialCall) → routine_at p ≡ Some cs → routine_at q ≡ Some cs → p ≡ q
 once p q cs e f = go (ltb p q) (ltb q p) refl refl
   where
-    never : (p q : ℕ) → routine_at p ≡ Some cs → routine_at q ≡ Some cs → p < q → ⊥
-    never p q e f l = true≢false (sym (ordered p q cs cs e f l) ∙ not_smaller cs)
+    never : (i j : ℕ) → routine_at i ≡ Some cs → routine_at j ≡ Some cs → i < j → ⊥
+    never i j g h l = true≢false (sym (ordered i j cs cs g h l) ∙ strict cs)
 
     go : (a b : Bool) → ltb p q ≡ a → ltb q p ≡ b → p ≡ q
     go true b g h = absurd (never p q e f (ltb-true p q g))
     go false true g h = absurd (never q p f e (ltb-true q p h))
     go false false g h = omega (arith, ltb-false p q g, ltb-false q p h)
-
-past_end : (p : ℕ) → slice_get routines p ≡ None → length routines ≤ p
-past_end p n = go (ltb p (length routines)) refl
-  where
-    go : (b : Bool) → ltb p (length routines) ≡ b → length routines ≤ p
-    go true e = absurd (none-some _ (sym n ∙ slice_get-get_or routines p [] (ltb-true p (length routines) e)))
-    go false e = ltb-false p (length routines) e
 
 pub in_order : InOrder
 unfolding routine_at
@@ -111,5 +153,7 @@ in_order =
       complete = complete;
       once = once;
       ordered = ordered;
+      strict = strict;
+      total = total;
       past_end = λ p. (past_end p, slice_get_past routines p);
     }

@@ -6,7 +6,7 @@ use Rattle.frame.specs.History.{Histories, no_histories, call_number, advance}
 use Rattle.trials.specs.declared.TrialCall.{TrialCall}
 use Rattle.trials.specs.declared.TrialCall.TheVariants.{Load, Mark, Back, Drop, Rest}
 
--- in the order in which lists are compared
+-- in 02's order, by which lists are compared
 abbrev pub calls : List TrialCall
 calls = Load ∷ Mark ∷ Back ∷ Drop ∷ Rest ∷ []
 
@@ -17,7 +17,7 @@ frame_call Back = at 0 (back 0)
 frame_call Drop = at 0 (drop 0)
 frame_call Rest = at 0 rest
 
--- one DC entry: a blocker with the pole 0.5, whose word is 3f000000
+-- one DC entry, with the pole 0.5 (3f000000)
 abbrev pub trial_sheet : List ℕ
 trial_sheet = 0x01 ∷ 0x00 ∷ 0x01 ∷ 0x00 ∷ 0x00 ∷ 0x00 ∷ 0x3f ∷ replicate 8 0
 

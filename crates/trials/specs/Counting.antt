@@ -1,11 +1,12 @@
--- How the code finds a routine: by the two facts on which a refusal of these calls depends, and by how many lists go on from there.
+-- By what the code goes: a head's state, and how many lists are accepted from there.
 use Rattle.std.specs.Prelude.{ℕ, zero, suc, ◌+◌, ◌-◌, Bool, true, false, ◌&&◌, not, cond, ltb, List, [], ◌∷◌, map, length, flat_map, Option, None, Some, option_map}
 use Rattle.trials.specs.Calls.{calls}
 use Rattle.trials.specs.declared.TrialCall.{TrialCall}
 use Rattle.trials.specs.declared.TrialCall.TheVariants.{Load, Mark, Back, Drop, Rest}
 use Rattle.trials.specs.declared.State.{State}
+use Rattle.trials.specs.declared.Step.{Step}
 
--- whether head 0 has a filter, and how many marks stand
+-- whether the head has a filter, and how many marks stand
 abbrev pub state : Bool → ℕ → State
 state b m = record { loaded = b; marks = m }
 
@@ -13,7 +14,7 @@ state b m = record { loaded = b; marks = m }
 abbrev pub empty : State
 empty = state false 0
 
--- None where the call is refused
+-- None for a refused call
 abbrev pub after : State → TrialCall → Option State
 after s Load = Some (state true s.marks)
 after s Mark = cond (s.loaded && not (ltb 3 s.marks)) (Some (state true (s.marks + 1))) None
@@ -25,16 +26,15 @@ after s Rest = cond s.loaded (Some s) None
 abbrev pub begun : (TrialCall → List (List TrialCall)) → List TrialCall → List (List TrialCall)
 begun f cs = flat_map (λ c. map (λ l. c ∷ l) (f c)) cs
 
--- the lists of n calls that have no refused call, from a state on; there are none behind a refused call
+-- the lists of n calls that are accepted from a state on
 unfoldable pub routines_from : Option State → ℕ → List (List TrialCall)
 routines_from None n = []
 routines_from (Some s) zero = [] ∷ []
 routines_from (Some s) (suc n) = begun (λ c. routines_from (after s c) n) calls
 
--- A place among the lists of n + 1 calls that begin with one of cs: the first call, the state behind it, and the place among the lists that
--- go on from there. None where there are not so many.
-unfoldable pub first_among : State → ℕ → List TrialCall → ℕ → Option (TrialCall × State × ℕ)
-first_among s n [] p = None
-first_among s n (c ∷ cs) p =
+-- the step at the place p among the lists of n + 1 calls that begin with one of cs, or None where there are not so many
+unfoldable pub step_among : State → ℕ → List TrialCall → ℕ → Option Step
+step_among s n [] p = None
+step_among s n (c ∷ cs) p =
     let m = length (routines_from (after s c) n) in
-    cond (ltb p m) (option_map (λ t. (c, t, p)) (after s c)) (first_among s n cs (p - m))
+    cond (ltb p m) (option_map (λ t. record { call = c; next = t; place = p }) (after s c)) (step_among s n cs (p - m))

@@ -1,15 +1,16 @@
-// The trial routines (02 l): every list of 0 to 5 calls on head 0 of a trial frame that has no refused call, by its place in their order.
-// They are counted, not stored: how many lists go on from each state says which call a place leads to. It needs no frame, and touches none.
+// Trial routines (02 l): the lists of up to five calls with which the mechanics try a frame's head 0, each at its place. None is stored. How
+// many of them go on behind each call is counted, and that says which call a place leads to. The code needs no frame.
 #![tactic(auto)]
 
 ghost use Rattle.std.specs.Prelude.{◌≡◌, ◌<◌, ◌≤◌, ◌+◌, length, get_or, option_map, [], Some};
 ghost use Rattle.trials.specs.Calls.{calls};
 ghost use Rattle.trials.specs.Routines.{routine_at};
-ghost use Rattle.trials.specs.Counting.{empty, after, routines_from, first_among};
+ghost use Rattle.trials.specs.Counting.{empty, after, routines_from, step_among};
 ghost use Rattle.trials.specs.Order.{InOrder, OnTrialFrame};
 
 use arrayvec::ArrayVec;
 
+// ArrayVec wants a default, which means nothing here.
 #[derive(Clone, Copy, Default)]
 pub enum TrialCall {
     #[default]
@@ -28,7 +29,11 @@ const CALLS: [TrialCall; 5] = [
     TrialCall::Rest,
 ];
 
-// What a refusal of these calls depends on: whether head 0 has a filter, and how many marks stand.
+// Shorter routines come first.
+const LENGTHS: [usize; 6] = [0, 1, 2, 3, 4, 5];
+
+// What a refusal of these calls goes by: whether head 0 has a filter, and how many marks stand. No list of five calls comes to a fifth mark;
+// that there are four at most stands here so that state and head agree on longer lists too.
 #[derive(Clone, Copy)]
 struct State {
     loaded: bool,
@@ -40,7 +45,15 @@ const EMPTY: State = State {
     marks: 0,
 };
 
-// None where the call is refused.
+// What a step down to a routine finds: its next call, the state behind it, and the place among the lists that go on from there.
+#[derive(Drop)]
+struct Step {
+    call: TrialCall,
+    next: State,
+    place: usize,
+}
+
+// None where the call is refused. A mark is never of an empty head, so that a head which goes back to one is loaded.
 fn after(state: State, call: TrialCall) -> Option<State>
     ensures { result ≡ after state call }
 {
@@ -64,7 +77,7 @@ fn after(state: State, call: TrialCall) -> Option<State>
     }
 }
 
-// How many lists of n calls have no refused call, from a state on.
+// How many lists of n calls are accepted from a state on: none behind a refused call.
 fn count(state: Option<State>, n: usize) -> usize
     requires { n ≤ 5 }
     ensures { result ≡ length (routines_from state n) }
@@ -82,50 +95,53 @@ fn count(state: Option<State>, n: usize) -> usize
     total
 }
 
-// The first call of the list at a place among those of `left` + 1 calls, the state behind it, and the list's place among those that go on
-// from there.
-#[tactic(auto, using(crate::proofs::Choices::first_none))]
-fn first_call(state: State, left: usize, mut place: usize) -> Option<(TrialCall, State, usize)>
+// The step at a place among the lists of `left` + 1 calls. Where a call has lists behind it, it is not refused, so `next` is a state.
+#[tactic(auto, using(crate::proofs::Choices::step_none))]
+fn next_step(state: State, left: usize, mut place: usize) -> Option<Step>
     requires { left ≤ 4 }
-    ensures { result ≡ first_among state left calls place }
+    ensures { result ≡ step_among state left calls place }
 {
     for call in CALLS {
         let next = after(state, call);
         let many = count(next, left);
         if place < many {
-            return Some((call, next?, place));
+            return Some(Step {
+                call,
+                next: next?,
+                place,
+            });
         }
         place -= many;
     }
     None
 }
 
-// The list at a place among those of n calls. Each step finds its call, since there are so many lists.
+// The list at a place among those of n calls. The place is below their number, so there is a step each time.
 #[tactic(auto, using(crate::proofs::Choices::walked_none, crate::proofs::Choices::walked_all, crate::proofs::Choices::walked_not_none))]
 fn list_at(n: usize, mut place: usize) -> ArrayVec<TrialCall, 5>
     requires few { n ≤ 5 }
     requires there { place < length (routines_from (Some empty) n) }
     ensures { result.items ≡ get_or (routines_from (Some empty) n) place [] }
 {
-    let mut calls = ArrayVec::new();
+    let mut list = ArrayVec::new();
     let mut state = EMPTY;
     for left in (0..n).rev() {
-        let Some((call, next, within)) = first_call(state, left, place) else {
-            return calls;
+        let Some(step) = next_step(state, left, place) else {
+            return list;
         };
-        calls.push(call);
-        state = next;
-        place = within;
+        list.push(step.call);
+        state = step.next;
+        place = step.place;
     }
-    calls
+    list
 }
 
-// The routine at a place, counted from 0; None past the end.
-#[tactic(auto, using(crate::proofs::Places::among_all, crate::proofs::Places::among_here, crate::proofs::Places::among_later))]
+// The routine at a place, from 0; None past the end.
+#[tactic(auto, using(crate::proofs::Places::few_calls, crate::proofs::Places::among_all, crate::proofs::Places::among_here, crate::proofs::Places::among_later, crate::proofs::Places::among_none))]
 pub fn routine_at(mut place: usize) -> Option<ArrayVec<TrialCall, 5>>
-    ensures { option_map (λ calls. calls.items) result ≡ routine_at place }
+    ensures { option_map (λ list. list.items) result ≡ routine_at place }
 {
-    for n in 0..6 {
+    for n in LENGTHS {
         let many = count(Some(EMPTY), n);
         if place < many {
             return Some(list_at(n, place));
@@ -137,13 +153,13 @@ pub fn routine_at(mut place: usize) -> Option<ArrayVec<TrialCall, 5>>
 
 // ---- the theorems
 
-// Every list of at most five of the calls that has no refused call stands at one place, in their order, and nothing else stands anywhere.
+// A routine is at each place below their number and at no other, the smaller one at the smaller place, and every routine is at one.
 #[tactic(auto, using(crate::proofs::Order::in_order))]
 pub fn in_order()
     ensures { InOrder }
 {}
 
-// What the histories say of a trial frame is what it does, whichever sheet of one entry it has opened.
+// They are the lists that a frame takes which has opened one entry, whichever it is.
 #[tactic(auto, using(crate::proofs::OnFrame::on_trial_frame))]
 pub fn on_trial_frame()
     ensures { OnTrialFrame }

@@ -5,4 +5,4 @@ use Rattle.trials.proofs.list_at.Goals as goal
 
 pub loop-left-preserved : goal.loop-left-preserved
 loop-left-preserved c =
-    walked_more c.loop-left.invariant c.in-Some.call c.in-Some.next c.in-Some.within c.push.new.self.items (omega (arith, c.loop-left-test.true)) c.in-Some.ensures c.push.ensures.items
+    walked_more c.loop-left.invariant c.in-Some.step c.push.new.self.items (omega (arith, c.loop-left-test.true)) c.in-Some.ensures c.push.ensures.items
