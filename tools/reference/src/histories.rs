@@ -1313,8 +1313,8 @@ pub fn arrangements() -> impl Iterator<Item = Vec<u8>> {
     })
 }
 
-/// Every place of a trial routine and as many as there are lists behind them, then each power of two with its neighbours; and each routine
-/// on a trial frame, its own line and those of its neighbours between its calls, which they leave alone.
+/// Every place of a trial routine and thousands behind them, then each power of two with its neighbours; and each routine on a trial frame,
+/// its own line and those of its neighbours between its calls, which they leave alone.
 pub fn trial_places() -> impl Iterator<Item = Vec<u8>> {
     let line = |place: u64| format!("trial {place}\n");
     let powers = (0..64).map(|k| 1u64 << k);
@@ -1327,12 +1327,12 @@ pub fn trial_places() -> impl Iterator<Item = Vec<u8>> {
             let place = place as u64;
             let mut text = format!("open {}\n", SHORT_SHEETS[0]);
             for call in calls {
-                let mark = if ["load", "back", "drop"].contains(call) {
+                let number = if ["load", "back", "drop"].contains(call) {
                     " 0"
                 } else {
                     ""
                 };
-                text.push_str(&format!("{call} 0{mark}\n"));
+                text.push_str(&format!("{call} 0{number}\n"));
                 (place..place + 2).for_each(|place| text.push_str(&line(place)));
                 text.push_str("head 0\ncount 0\n");
             }

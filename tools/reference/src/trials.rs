@@ -20,7 +20,7 @@ const CALLS: [(&str, fn(&mut Frame) -> u8); 5] = [
 /// The library of a trial frame: a DC blocker with pole 0.5.
 const SHEET: [u8; 15] = [1, 0, 1, 0, 0, 0, 0x3F, 0, 0, 0, 0, 0, 0, 0, 0];
 
-// The calls of the list of so many with this number, by their places: the number's digits, the highest first.
+// The list-th list of `length` calls, as places in CALLS: its digits in base 5, the highest first.
 fn spelled(list: usize, length: u32) -> Vec<usize> {
     let digit = |place| list / CALLS.len().pow(place) % CALLS.len();
     (0..length).rev().map(digit).collect()
