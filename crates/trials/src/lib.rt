@@ -2,7 +2,7 @@
 // many of them go on behind each call is counted, and that says which call a place leads to. The code needs no frame.
 #![tactic(auto)]
 
-ghost use Rattle.std.specs.Prelude.{◌≡◌, ◌<◌, ◌≤◌, ◌+◌, length, get_or, option_map, [], Some};
+ghost use Rattle.std.specs.Prelude.{◌≡◌, ◌<◌, ◌≤◌, length, get_or, option_map, [], Some};
 ghost use Rattle.trials.specs.Calls.{calls};
 ghost use Rattle.trials.specs.Routines.{routine_at};
 ghost use Rattle.trials.specs.Counting.{empty, after, routines_from, step_among};
