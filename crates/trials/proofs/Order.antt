@@ -9,7 +9,7 @@ use native.Mathlib.Omega.{arith}
 use lib.ListN.{length, get_or}
 use Rattle.std.specs.Prelude.{None, Some, eqb, ltb, leb, filter, flat_map, Contains}
 use Rattle.std.specs.List.{slice_get, list_all}
-use Rattle.std.proofs.lemmas.Bool.{or_parts, eq-eqb, le-ltb, leb-true, ltb-true, ltb-false}
+use Rattle.std.proofs.lemmas.Bool.{or_parts, or_cases, and_parts, eq-eqb, ne_eqb, eqb-true, le-ltb, leb-true, ltb-true, ltb-false}
 use Rattle.std.proofs.lemmas.List.Elements.{filter_passes}
 use Rattle.std.proofs.lemmas.List.Sums.{AllPass-from_list_all}
 use Rattle.std.proofs.lemmas.Option.{none-some, slice_get_past, slice_get_within, slice_get_read, slice_get_cases, get_or_from_slice_get}
@@ -97,12 +97,23 @@ ordered p q cs ds e f h =
     rw (get_or_from_slice_get counted p cs [] i, get_or_from_slice_get counted q ds [] j) at
     (AllPairs-from_pairs_pass smaller counted all_ordered p q [] h (slice_get_within counted q ds j))
 
-not_earlier : (cs : List TrialCall) → earlier cs cs ≡ false
-not_earlier [] = refl
-not_earlier (c ∷ cs) = rw (le-ltb (rank c) (rank c) (omega arith), not_earlier cs) (and-false (eqb (rank c) (rank c)))
+-- one of two numbers is the smaller, or they are equal and what comes behind decides
+decided : (m n : ℕ) (a b : Bool) → ltb m n || (eqb m n && a) ≡ true → (a ≡ true → b ≡ false) → ltb n m || (eqb n m && b) ≡ false
+decided m n a b e h = ⊎_elim less same (or_cases (ltb m n) (eqb m n && a) e)
+  where
+    less : ltb m n ≡ true → ltb n m || (eqb n m && b) ≡ false
+    less l = let k = ltb-true m n l in rw (le-ltb n m (omega arith), ne_eqb n m (omega arith)) refl
 
-strict : (cs : List TrialCall) → smaller cs cs ≡ false
-strict cs = rw (le-ltb (length cs) (length cs) (omega arith), not_earlier cs) (and-false (eqb (length cs) (length cs)))
+    same : eqb m n && a ≡ true → ltb n m || (eqb n m && b) ≡ false
+    same s = let k = and_parts (eqb m n) a s in rw (le-ltb n m (omega (arith, eqb-true m n k.0)), h k.1) (and-false (eqb n m))
+
+earlier_one_way : (cs ds : List TrialCall) → earlier cs ds ≡ true → earlier ds cs ≡ false
+earlier_one_way [] ds e = absurd (true≢false (sym e))
+earlier_one_way (c ∷ cs) [] e = refl
+earlier_one_way (c ∷ cs) (d ∷ ds) e = decided (rank c) (rank d) (earlier cs ds) (earlier ds cs) e (earlier_one_way cs ds)
+
+one_way : (cs ds : List TrialCall) → smaller cs ds ≡ true → smaller ds cs ≡ false
+one_way cs ds e = decided (length cs) (length ds) (earlier cs ds) (earlier ds cs) e (earlier_one_way cs ds)
 
 with_rank : (c : TrialCall) → get_or calls (rank c) Load ≡ c
 with_rank Load = refl
@@ -138,7 +149,7 @@ once : (p q : ℕ) (cs : List TrialCall) → routine_at p ≡ Some cs → routin
 once p q cs e f = go (ltb p q) (ltb q p) refl refl
   where
     never : (i j : ℕ) → routine_at i ≡ Some cs → routine_at j ≡ Some cs → i < j → ⊥
-    never i j g h l = true≢false (sym (ordered i j cs cs g h l) ∙ strict cs)
+    never i j g h l = let s = ordered i j cs cs g h l in true≢false (sym s ∙ one_way cs cs s)
 
     go : (a b : Bool) → ltb p q ≡ a → ltb q p ≡ b → p ≡ q
     go true b g h = absurd (never p q e f (ltb-true p q g))
@@ -153,7 +164,7 @@ in_order =
       complete = complete;
       once = once;
       ordered = ordered;
-      strict = strict;
+      one_way = one_way;
       total = total;
       past_end = λ p. (past_end p, slice_get_past routines p);
     }

@@ -45,8 +45,8 @@ pub record InOrder : Type 0 where
   pub complete : (cs : List TrialCall) → Trial cs → (p : ℕ) × (routine_at p ≡ Some cs)
   pub once : (p q : ℕ) (cs : List TrialCall) → routine_at p ≡ Some cs → routine_at q ≡ Some cs → p ≡ q
   pub ordered : (p q : ℕ) (cs ds : List TrialCall) → routine_at p ≡ Some cs → routine_at q ≡ Some ds → p < q → smaller cs ds ≡ true
-  -- of two lists just one is the smaller, and none is smaller than itself, so that the order leaves one place to each
-  pub strict : (cs : List TrialCall) → smaller cs cs ≡ false
+  -- of two lists one is the smaller and not the other too, unless they are the same: so no other arrangement is in order
+  pub one_way : (cs ds : List TrialCall) → smaller cs ds ≡ true → smaller ds cs ≡ false
   pub total : (cs ds : List TrialCall) → smaller cs ds ≡ false → smaller ds cs ≡ false → cs ≡ ds
   -- where they end
   pub past_end : (p : ℕ) → (routine_at p ≡ None) ↔ (length routines ≤ p)
