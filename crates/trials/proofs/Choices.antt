@@ -40,7 +40,7 @@ step_none s n i p r w h = rw (drop_all i calls h) at w
 
 -- ---- to which list a step leads
 
--- a step from the place p among the lists of n + 1 calls that begin with one of cs
+-- what a step from the place p leads to, where the first call is one of cs and n more follow
 record Leads (s : State) (n : ℕ) (cs : List TrialCall) (p : ℕ) (r : Step) : Type 0 where
   found : step_among s n cs p ≡ Some r
   inside : r.place < length (routines_from (Some r.next) n)

@@ -1,4 +1,4 @@
--- The calls of a trial routine (02 l), and when none of them is refused: by the frame's histories, which have no rule of their own here.
+-- The calls of a trial routine (02 l). The frame's histories say whether one of them is refused; no rule of refusal stands here.
 use Rattle.std.specs.Prelude.{ℕ, Bool, true, ◌&&◌, eqb, List, [], ◌∷◌, replicate}
 use Rattle.heads.specs.Act.{mark, back, drop, rest}
 use Rattle.frame.specs.Call.{Call, opening, loading, at}
@@ -17,7 +17,7 @@ frame_call Back = at 0 (back 0)
 frame_call Drop = at 0 (drop 0)
 frame_call Rest = at 0 rest
 
--- one DC entry, with the pole 0.5 (3f000000)
+-- a DC blocker alone; 3f000000 is its pole, 0.5
 abbrev pub trial_sheet : List ℕ
 trial_sheet = 0x01 ∷ 0x00 ∷ 0x01 ∷ 0x00 ∷ 0x00 ∷ 0x00 ∷ 0x3f ∷ replicate 8 0
 

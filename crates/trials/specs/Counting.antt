@@ -32,7 +32,7 @@ routines_from None n = []
 routines_from (Some s) zero = [] ∷ []
 routines_from (Some s) (suc n) = begun (λ c. routines_from (after s c) n) calls
 
--- the step at the place p among the lists of n + 1 calls that begin with one of cs, or None where there are not so many
+-- which step the place p takes: the first call is one of cs, and n more follow; None where p is past them
 unfoldable pub step_among : State → ℕ → List TrialCall → ℕ → Option Step
 step_among s n [] p = None
 step_among s n (c ∷ cs) p =

@@ -21,7 +21,7 @@ rank Back = 2
 rank Drop = 3
 rank Rest = 4
 
--- at the first place where they differ
+-- of lists with as many calls: the rank decides where they first differ
 abbrev pub earlier : List TrialCall → List TrialCall → Bool
 earlier [] ds = false
 earlier (c ∷ cs) [] = false
@@ -63,9 +63,9 @@ pub record OnTrialFrame : Type 0 where
       (s : List ℕ) → check_of s ≡ 0
       → (cs : List TrialCall)
       → none_refused (opened s) cs ≡ all_accepted (replies_from fresh_frame (opening s ∷ map frame_call cs))
-  -- the trial sheet is accepted, and is one DC entry
+  -- opening the trial sheet is accepted; its only entry is a DC blocker
   pub sheet : check_of trial_sheet ≡ 0
   pub one_entry : entries_of trial_sheet ≡ 1
   pub dc_entry : setter_of (kind_at trial_sheet 0) ≡ Some DcBlocker
-  -- they are the same for any other sheet of one entry
+  -- another single entry makes no difference
   pub any_sheet : (s : List ℕ) → check_of s ≡ 0 → entries_of s ≡ 1 → (cs : List TrialCall) → none_refused (opened s) cs ≡ none_refused (opened trial_sheet) cs

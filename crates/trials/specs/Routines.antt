@@ -5,7 +5,7 @@ use Rattle.std.specs.List.{slice_get}
 use Rattle.trials.specs.Calls.{calls, trial_sheet, opened, none_refused}
 use Rattle.trials.specs.declared.TrialCall.{TrialCall}
 
--- all lists of n calls: those that begin with a load, then with a mark, and so on
+-- of n calls: the lists that begin with a load, then those with a mark, and so on
 unfoldable pub lists_of : ℕ → List (List TrialCall)
 lists_of zero = [] ∷ []
 lists_of (suc n) = flat_map (λ c. map (λ cs. c ∷ cs) (lists_of n)) calls

@@ -33,7 +33,7 @@ const CALLS: [TrialCall; 5] = [
 const LENGTHS: [usize; 6] = [0, 1, 2, 3, 4, 5];
 
 // What a refusal of these calls goes by: whether head 0 has a filter, and how many marks stand. No list of five calls comes to a fifth mark;
-// that there are four at most stands here so that state and head agree on longer lists too.
+// that `after` refuses one lets state and head agree on longer lists too.
 #[derive(Clone, Copy)]
 struct State {
     loaded: bool,
@@ -95,7 +95,7 @@ fn count(state: Option<State>, n: usize) -> usize
     total
 }
 
-// The step at a place among the lists of `left` + 1 calls. Where a call has lists behind it, it is not refused, so `next` is a state.
+// The step that a place takes where `left` calls follow it. Where a call has lists behind it, it is not refused, so `next` is a state.
 #[tactic(auto, using(crate::proofs::Choices::step_none))]
 fn next_step(state: State, left: usize, mut place: usize) -> Option<Step>
     requires { left ≤ 4 }
@@ -116,7 +116,7 @@ fn next_step(state: State, left: usize, mut place: usize) -> Option<Step>
     None
 }
 
-// The list at a place among those of n calls. The place is below their number, so there is a step each time.
+// The list of n calls at a place, counted among those of n calls alone. The place is below their number, so there is a step each time.
 #[tactic(auto, using(crate::proofs::Choices::walked_none, crate::proofs::Choices::walked_all, crate::proofs::Choices::walked_not_none))]
 fn list_at(n: usize, mut place: usize) -> ArrayVec<TrialCall, 5>
     requires few { n ≤ 5 }
