@@ -15,7 +15,7 @@ abbrev pub clip : Float → Float
 clip f = clip_at (word 0x3efe_76c9) f
 
 -- 4.3.101: 1, 0.3333314036, 0.1333923995, 0.0533740603, 0.0245650893, 0.0029005250, 0.0095168091
-abbrev tangent_row : List Float
+abbrev pub tangent_row : List Float
 tangent_row =
     oneᶠ ∷ word 0x3eaa_aa6a ∷ word 0x3e08_9804 ∷ word 0x3d5a_9ec2 ∷ word 0x3cc9_3cba ∷ word 0x3b3e_16bc ∷ word 0x3c1b_ec64 ∷ []
 
