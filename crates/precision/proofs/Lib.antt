@@ -1,0 +1,5 @@
+pub mod Near
+pub mod Rounding
+pub mod Counted
+pub mod Words
+pub mod Polynomials
