@@ -3,3 +3,4 @@ pub mod Rounding
 pub mod Counted
 pub mod Words
 pub mod Polynomials
+pub mod Bounds

@@ -1,16 +1,20 @@
--- Words of normal numbers above zero are in the order of their values. Assumes nothing.
-use mathlib.Core.Bool.{false}
+-- Words of normal numbers above zero are in the order of their values; so those from the span's first to its last are of floats in it.
+-- Assumes nothing.
+use mathlib.Core.Path.{◌≡◌}
+use mathlib.Core.Bool.{true, false}
 use mathlib.Core.Logic.{inl, inr}
 use Prim.Native.Nat.{ℕ, zero, suc, ◌+◌, ◌*◌, ◌/◌, ◌%◌, ◌^◌, ◌≤◌, ◌<◌}
-use native.Mathlib.Nat.{eq-or-lt_of_le, pow-suc, mod-eq_of_lt, mod-lt, mul-le-mul, mul-le-mul_right}
+use native.Mathlib.Nat.{eq-or-lt_of_le, mod-eq_of_lt, mod-lt, mul-le-mul, mul-le-mul_right, pow-suc}
 use native.Mathlib.Omega.{arith}
-use lib.Dec.{T}
+use lib.Dec.{T, lit≤}
 use lib.Pow.{pow_pos, pow_mono}
 use lib.Ieee.{binary32, of_fields, of_bits, le}
+use lib.Ieee.Bits.{is_true}
 use lib.Ieee.Exact.{HasValue, odd_sign}
 use lib.Ieee.Order.{le_of_values}
-use Rattle.std.proofs.lemmas.Bool.{lt-leb, ne_eqb}
+use Rattle.std.proofs.lemmas.Bool.{and_from, lt-leb, ne_eqb}
 use Rattle.filter_core.specs.Arithmetic.{word}
+use Rattle.precision.specs.Precision.{lowest, highest, in_span}
 
 -- in units of 2 ^ -149: x is the exponent's field, and t are the digits behind the leading one
 abbrev units : ℕ → ℕ → ℕ
@@ -40,8 +44,13 @@ ordered (suc x) (suc y) t u p l h m =
       | inr g ↦ let o : 2 ^ 23 ≤ 2 ^ 23 + u = omega arith in omega (arith, mul-le-mul_right (2 ^ x) l, rw (pow-suc 2 x) at (mul-le-mul o (pow_mono g)))
     ]
 
-pub words_in_order : (n m : ℕ) → 2 ^ 23 ≤ n → n ≤ m → m < 255 * 2 ^ 23 → T (le (word n) (word m))
+words_in_order : (n m : ℕ) → 2 ^ 23 ≤ n → n ≤ m → m < 255 * 2 ^ 23 → T (le (word n) (word m))
 words_in_order n m a b c =
     le_of_values (word n) (word m) (units (n / 2 ^ 23) (n % 2 ^ 23)) (2 ^ 149) (units (m / 2 ^ 23) (m % 2 ^ 23)) (2 ^ 149) (pow_pos 149) (pow_pos 149)
     (value_of n a (omega (arith, b, c))) (value_of m (omega (arith, a, b)) c)
     (mul-le-mul_right (2 ^ 149) (ordered (n / 2 ^ 23) (m / 2 ^ 23) (n % 2 ^ 23) (m % 2 ^ 23) (omega (arith, a)) (mod-lt n (pow_pos 23)) (omega (arith, b)) (mod-lt m (pow_pos 23))))
+
+pub spanned : (n : ℕ) → 0x3580_0000 ≤ n → n ≤ 0x3f00_0000 → in_span (word n) ≡ true
+spanned n a b =
+    and_from _ _ (is_true (le lowest (word n)) (words_in_order 0x3580_0000 n (lit≤ tt) a (omega (arith, b))))
+    (is_true (le (word n) highest) (words_in_order n 0x3f00_0000 (omega (arith, a)) b (lit≤ tt)))

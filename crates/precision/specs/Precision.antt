@@ -7,9 +7,15 @@ use Rattle.filter_core.specs.declared.FrequencyApproximation.TheVariants.{Accura
 use Rattle.one_pole.specs.Tangent.{dirty_a, fast_a, fast_b, accurate_a, accurate_b, accurate_c, accurate_d, accurate_e, tangent_row, tan_of}
 use Rattle.precision.specs.Exact.{Scaled, ◌⊕◌, ◌⊗◌, exact, within}
 
--- from 2 ^ -20 to 0.5, so with the words 3580_0000 to 3f00_0000
+-- 2 ^ -20 and 0.5, the ends of the span
+abbrev pub lowest : Float
+lowest = word 0x3580_0000
+
+abbrev pub highest : Float
+highest = halfᶠ
+
 abbrev pub in_span : Float → Bool
-in_span f = le (word 0x3580_0000) f && le f halfᶠ
+in_span f = le lowest f && le f highest
 
 -- ---- the exact values, beside `tan_dirty`, `tan_fast`, `tan_accurate` and `tan_by_series`
 
@@ -36,7 +42,9 @@ exact_series f = let x = exact πᶠ ⊗ f in x ⊗ exact_horner (x ⊗ x) tange
 -- ---- the bounds
 
 pub record Precision : Type 0 where
+  -- every word of the span is in it
   pub words : (n : ℕ) → 0x3580_0000 ≤ n → n ≤ 0x3f00_0000 → in_span (word n) ≡ true
+  -- and for every float in it
   pub dirty : (f : Float) → in_span f ≡ true → within 5 (tan_of f Dirty) (exact_dirty (exact f)) ≡ true
   pub fast : (f : Float) → in_span f ≡ true → within 8 (tan_of f Fast) (exact_fast (exact f)) ≡ true
   pub accurate : (f : Float) → in_span f ≡ true → within 17 (tan_of f Accurate) (exact_accurate (exact f)) ≡ true

@@ -1,5 +1,5 @@
 -- No plainer: named by `using`, the law does not prove this, since it ends in a record.
-use Rattle.precision.proofs.Polynomials.{precision}
+use Rattle.precision.proofs.Bounds.{precision}
 use Rattle.precision.proofs.precision.Goals as goal
 
 pub returns : goal.returns
