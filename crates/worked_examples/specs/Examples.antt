@@ -1,16 +1,18 @@
 -- The worked examples of document 01, and those for requests of 02, a row each, about the definitions that the contracts cite.
 -- An output buffer is lent full of `kept`, so that the places that a form leaves alone show.
-use Rattle.std.specs.Prelude.{◌≡◌, ℕ, List, [], ◌∷◌, ◌++◌, length, take, drop, map, replicate, Float, None, Some}
+use Rattle.std.specs.Prelude.{◌≡◌, ℕ, ◌*◌, ◌^◌, false, List, [], ◌∷◌, ◌++◌, length, take, drop, map, replicate, Float, None, Some}
 use Rattle.std.specs.Float.{nan}
 use Rattle.filter_core.specs.Arithmetic.{word, zeroᶠ, halfᶠ, oneᶠ, negᶠ}
 use Rattle.filter_core.specs.Buffer.{Filtered, buffer_after, each, puts, each_due, puts_due}
 use Rattle.filter_core.specs.declared.FilterMode.TheVariants.{LowPass, BandPass, BandPassNormalized, HighPass}
-use Rattle.filter_core.specs.declared.FrequencyApproximation.TheVariants.{Exact, Dirty, Series}
+use Rattle.filter_core.specs.declared.FrequencyApproximation.TheVariants.{Exact, Accurate, Fast, Dirty, Series}
 use Rattle.dc_blocker.specs.DcBlocker.{dc_next, dc_out}
 use Rattle.dc_blocker.specs.declared.DcBlocker.{DcBlocker}
 use Rattle.one_pole.specs.OnePole.{one_pole_next, one_pole_out}
 use Rattle.one_pole.specs.Tangent.{tan_of}
 use Rattle.one_pole.specs.declared.OnePole.{OnePole}
+use Rattle.precision.specs.Exact.{Scaled, exact, within}
+use Rattle.precision.specs.Precision.{exact_dirty, exact_fast, exact_accurate, exact_series}
 use Rattle.svf.specs.Svf.{svf_next, svf_out, svf_multimode}
 use Rattle.svf.specs.declared.Svf.{Svf}
 use Rattle.naive_svf.specs.Sine.{naive_frequency}
@@ -50,6 +52,10 @@ kept = word 0x40e0_0000
 -- 0.25
 abbrev pub quarterᶠ : Float
 quarterᶠ = word 0x3e80_0000
+
+-- x is n / 2 ^ p
+abbrev pub is_fraction : Scaled → ℕ → ℕ → Type 0
+is_fraction x n p = x.whole * 2 ^ p ≡ n * 2 ^ x.places
 
 -- 0.625
 abbrev pub five_eighthsᶠ : Float
@@ -417,3 +423,12 @@ pub record WorkedExamples : Type 0 where
   pub trial_count : length routines ≡ 254
   pub trial_last : routine_at 253 ≡ Some (Load ∷ Rest ∷ Rest ∷ Rest ∷ Rest ∷ [])
   pub trial_end : routine_at 254 ≡ None
+  -- document 02, g: at 0.25 the exact polynomials are 16213457 / 2 ^ 24, 267849275 / 2 ^ 28 and 34276890623 / 2 ^ 35. Of the units that are
+  -- proved, 5, 8, 17 and 33, the worst f take more than 2, 2, 4 and 10
+  pub exact_dirty_quarter : is_fraction (exact_dirty (exact quarterᶠ)) 16213457 24
+  pub exact_fast_quarter : is_fraction (exact_fast (exact quarterᶠ)) 267849275 28
+  pub exact_accurate_quarter : is_fraction (exact_accurate (exact quarterᶠ)) 34276890623 35
+  pub dirty_beyond_two : let f = word 0x3ed5_c7e6 in within 2 (tan_of f Dirty) (exact_dirty (exact f)) ≡ false
+  pub fast_beyond_two : let f = word 0x3ef5_3593 in within 2 (tan_of f Fast) (exact_fast (exact f)) ≡ false
+  pub accurate_beyond_four : let f = word 0x3ee6_5796 in within 4 (tan_of f Accurate) (exact_accurate (exact f)) ≡ false
+  pub series_beyond_ten : let f = word 0x3ef1_2850 in within 10 (tan_of f Series) (exact_series (exact f)) ≡ false

@@ -1,5 +1,6 @@
 use mathlib.Core.Path.{refl}
 use lib.Ieee.{of_bits, to_bits, add, sub, mul, div, neg, lt, le, is_nan}
+use Rattle.one_pole.specs.Tangent.{dirty_a, fast_a, fast_b, accurate_a, accurate_b, accurate_c, accurate_d, accurate_e}
 use Rattle.svf.specs.Svf.{svf_next, svf_out, svf_mixed}
 use Rattle.naive_svf.specs.NaiveSvf.{naive_low, naive_high, naive_next, naive_out}
 use Rattle.modified_svf.specs.ModifiedSvf.{modified_next, modified_out}
@@ -22,7 +23,7 @@ use Rattle.trials.specs.Routines.{lists_of, routines, routine_at}
 use Rattle.worked_examples.proofs.worked_examples.Goals as goal
 
 pub returns : goal.returns
-unfolding rows of_bits add sub mul div neg lt le is_nan first_refusal entry_refusal over table filter_for through first_output replies_to reply_to advance call_number opened none_refused lists_of routines routine_at zero_bytes type_from since_from samples_in snapshot_from ring_after account last_served to_bits row_of snapshot_in row_at rows_from with_row svf_next svf_out svf_mixed naive_low naive_high naive_next naive_out modified_next modified_out crossover_next crossover_out
+unfolding dirty_a fast_a fast_b accurate_a accurate_b accurate_c accurate_d accurate_e rows of_bits add sub mul div neg lt le is_nan first_refusal entry_refusal over table filter_for through first_output replies_to reply_to advance call_number opened none_refused lists_of routines routine_at zero_bytes type_from since_from samples_in snapshot_from ring_after account last_served to_bits row_of snapshot_in row_at rows_from with_row svf_next svf_out svf_mixed naive_low naive_high naive_next naive_out modified_next modified_out crossover_next crossover_out
 returns c =
     record {
       dc_blocker = refl;
@@ -82,4 +83,11 @@ returns c =
       trial_count = refl;
       trial_last = refl;
       trial_end = refl;
+      exact_dirty_quarter = refl;
+      exact_fast_quarter = refl;
+      exact_accurate_quarter = refl;
+      dirty_beyond_two = refl;
+      fast_beyond_two = refl;
+      accurate_beyond_four = refl;
+      series_beyond_ten = refl;
     }
