@@ -1,23 +1,22 @@
 -- A formula of sums and products, evaluated in binary32: its roundings are counted, and its value is that near to the exact one.
 -- Assumes nothing.
-use mathlib.Core.Path.{◌≡◌, refl}
-use mathlib.Core.Bool.{Bool, true, false, ◌&&◌}
+use mathlib.Core.Path.{◌≡◌}
+use mathlib.Core.Bool.{Bool, true, ◌&&◌}
 use Prim.Native.Nat.{ℕ, suc, ◌+◌, ◌-◌, ◌*◌, ◌^◌, ◌≤◌, ◌<◌, max}
 use native.Mathlib.Nat.{add-zero, zero-add, le_of_mul-le-mul_right, mul-le-mul_right, mul-sub, one-le-pow}
 use native.Mathlib.Numerals.{one-add}
 use native.Mathlib.Omega.{arith}
 use lib.Dec.{T, leb, lit≤}
-use lib.Pow.{pow-add}
-use lib.Ieee.{Float, nan, inf, fin, binary32, round, sum, add, le}
+use lib.Ieee.{Float, le}
 use lib.Ieee.Bits.{is_true}
-use lib.Ieee.Positive.{num, den, positive, between, le→cross, den_pos, own_value, mul_at}
+use lib.Ieee.Positive.{positive, between, le→cross}
 use Rattle.std.proofs.lemmas.Bool.{and_from, and_parts, leb-true, le-leb}
 use Rattle.std.proofs.lemmas.Float.{T_from_true}
 use Rattle.std.proofs.Math.Nat.{le-max_left, le-max_right}
 use Rattle.filter_core.specs.Arithmetic.{◌+ᶠ◌, ◌*ᶠ◌}
 use Rattle.precision.specs.Exact.{Scaled, ◌⊕◌, ◌⊗◌, exact, distance, within}
 use Rattle.precision.proofs.Near.{N, U, Under, under_chain, under_back, under_product, under_sum, Near, near_self, near_more, near_chain, near_product, near_sum}
-use Rattle.precision.proofs.Rounding.{whole_is, scale_is, rounded, least, most, Normal, Close, round_close}
+use Rattle.precision.proofs.Rounding.{whole_is, scale_is, rounded, least, most, Normal, Close, round_close, mul_rounded, add_rounded}
 
 infixl 60 ◌⊞◌
 infixl 70 ◌⊠◌
@@ -85,25 +84,7 @@ module _ (k : ℕ) (lo hi a x : Scaled) (t : in_range k lo hi ≡ true) (from : 
       let r = round_close a stays_normal in
       record { above_zero = r.above_zero; near = rw one-add at (near_chain (exact (rounded a)) a x 1 k r.near h) }
 
--- ---- a sum and a product of values above zero
-
-mul_rounded : (v w : Float) → T (positive v) → T (positive w) → v *ᶠ w ≡ rounded (exact v ⊗ exact w)
-mul_rounded v w p q =
-    rw (pow-add 2 (exact v).places (exact w).places, whole_is v, whole_is w, scale_is v, scale_is w)
-    (mul_at binary32 v w (num v) (den v) (num w) (den w) p q (den_pos v) (den_pos w) (own_value v p) (own_value w q))
-
-add_is : (v w : Float) → T (positive v) → T (positive w) → v +ᶠ w ≡ round binary32 false (num v * den w + num w * den v) (den v * den w)
-unfolding add sum
-add_is nan w p q = absurd p
-add_is (inf s) w p q = absurd p
-add_is (fin true m e) w p q = absurd p
-add_is (fin false m e) nan p q = absurd q
-add_is (fin false m e) (inf t) p q = absurd q
-add_is (fin false m e) (fin true n d) p q = absurd q
-add_is (fin false m e) (fin false n d) p q = refl
-
-add_rounded : (v w : Float) → T (positive v) → T (positive w) → v +ᶠ w ≡ rounded (exact v ⊕ exact w)
-add_rounded v w p q = rw (pow-add 2 (exact v).places (exact w).places, whole_is v, whole_is w, scale_is v, scale_is w) (add_is v w p q)
+-- ---- a sum and a product
 
 module _ (v w : Float) (x y lo hi : Scaled) (j k : ℕ) (a : Close j v x) (b : Close k w y) where
   sum_close : in_range (max j k) lo hi ≡ true → Under N U 0 lo (x ⊕ y) → Under N U 0 (x ⊕ y) hi → Close (suc (max j k)) (v +ᶠ w) (x ⊕ y)

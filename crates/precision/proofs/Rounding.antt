@@ -1,21 +1,22 @@
 -- One rounding: an exact number in the normal range, rounded to binary32, is at most 1 + 2 ^ -24 times the number, and the number at most as
 -- many times what it rounds to. Assumes nothing.
 use mathlib.Core.Path.{◌≡◌, refl, sym}
-use mathlib.Core.Bool.{false, not}
+use mathlib.Core.Bool.{true, false, not}
 use Prim.Native.Nat.{ℕ, zero, suc, ◌+◌, ◌-◌, ◌*◌, ◌/◌, ◌%◌, ◌^◌, ◌≤◌, ◌<◌, compare, Ordering}
 use native.Mathlib.Nat.{le_of_mul-le-mul_right, lt_of_le_of_lt, div-add-mod', le-div_iff_mul-le, le_trans, mod-lt, mul-le-mul_right, mul-one, mul-pos}
 use native.Mathlib.Omega.{arith}
 use lib.Dec.{T, is_le, compare_is_eq, leb→le, nleb→lt, eqb→eq, lit≤}
 use lib.IntN.{pos, negsuc}
 use lib.Pow.{pow-add, pow_pos}
-use lib.Ieee.{Float, nan, inf, fin, binary32, size, nearest, round}
+use lib.Ieee.{Float, nan, inf, fin, binary32, size, nearest, round, sum, add}
 use lib.Ieee.Digits.{size_reaches}
 use lib.Ieee.Exact.{HasValue}
 use lib.Ieee.Nearest.{closest, nearest-ge}
 use lib.Ieee.Order.{drop, kept}
 use lib.Ieee.Scale.{grid, overflow, round_val, normal_of_fraction}
-use lib.Ieee.Positive.{num, den, positive, value→cross, positive_of_value}
-use Rattle.precision.specs.Exact.{Scaled, exact}
+use lib.Ieee.Positive.{num, den, positive, den_pos, own_value, mul_at, value→cross, positive_of_value}
+use Rattle.filter_core.specs.Arithmetic.{◌+ᶠ◌, ◌*ᶠ◌}
+use Rattle.precision.specs.Exact.{Scaled, ◌⊕◌, ◌⊗◌, exact}
 use Rattle.precision.proofs.Near.{N, U, Under, Near, near_chain}
 
 -- ---- the nearest whole number is at most half off
@@ -144,3 +145,23 @@ round_close s h =
       above_zero = positive_of_value (rounded s) (units s) (2 ^ 149) v (units_above_zero s h);
       near = near_chain (exact (rounded s)) (of_units s) s 0 1 (value_near (rounded s) (units s) 149 v) (units_near s h);
     }
+
+-- ---- a sum and a product of values above zero are the exact ones, rounded
+
+pub mul_rounded : (v w : Float) → T (positive v) → T (positive w) → v *ᶠ w ≡ rounded (exact v ⊗ exact w)
+mul_rounded v w p q =
+    rw (pow-add 2 (exact v).places (exact w).places, whole_is v, whole_is w, scale_is v, scale_is w)
+    (mul_at binary32 v w (num v) (den v) (num w) (den w) p q (den_pos v) (den_pos w) (own_value v p) (own_value w q))
+
+add_is : (v w : Float) → T (positive v) → T (positive w) → v +ᶠ w ≡ round binary32 false (num v * den w + num w * den v) (den v * den w)
+unfolding add sum
+add_is nan w p q = absurd p
+add_is (inf s) w p q = absurd p
+add_is (fin true m e) w p q = absurd p
+add_is (fin false m e) nan p q = absurd q
+add_is (fin false m e) (inf t) p q = absurd q
+add_is (fin false m e) (fin true n d) p q = absurd q
+add_is (fin false m e) (fin false n d) p q = refl
+
+pub add_rounded : (v w : Float) → T (positive v) → T (positive w) → v +ᶠ w ≡ rounded (exact v ⊕ exact w)
+add_rounded v w p q = rw (pow-add 2 (exact v).places (exact w).places, whole_is v, whole_is w, scale_is v, scale_is w) (add_is v w p q)
