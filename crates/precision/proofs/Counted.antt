@@ -8,15 +8,14 @@ use native.Mathlib.Numerals.{one-add}
 use native.Mathlib.Omega.{arith}
 use lib.Dec.{T, leb, lit≤}
 use lib.Ieee.{Float, le}
-use lib.Ieee.Bits.{is_true}
 use lib.Ieee.Positive.{positive, between, le→cross}
 use Rattle.std.proofs.lemmas.Bool.{and_from, and_parts, leb-true, le-leb}
 use Rattle.std.proofs.lemmas.Float.{T_from_true}
 use Rattle.std.proofs.Math.Nat.{le-max_left, le-max_right}
 use Rattle.filter_core.specs.Arithmetic.{◌+ᶠ◌, ◌*ᶠ◌}
 use Rattle.precision.specs.Exact.{Scaled, ◌⊕◌, ◌⊗◌, exact, distance, within}
-use Rattle.precision.proofs.Near.{N, U, Under, under_chain, under_back, under_product, under_sum, Near, near_self, near_more, near_chain, near_product, near_sum}
-use Rattle.precision.proofs.Rounding.{whole_is, scale_is, rounded, least, most, Normal, Close, round_close, mul_rounded, add_rounded}
+use Rattle.precision.proofs.Near.{N, U, Under, under_self, under_chain, under_back, under_product, under_sum, Near, near_self, near_more, near_chain, near_product, near_sum}
+use Rattle.precision.proofs.Rounding.{whole_is, scale_is, rounded, least, most, Normal, Close, round_close, mul_rounded, add_rounded, is_above_zero}
 
 infixl 60 ◌⊞◌
 infixl 70 ◌⊠◌
@@ -50,7 +49,7 @@ roundings (d ⊠ e) = suc (roundings d + roundings e)
 abbrev room : ℕ → Scaled → Scaled → Bool
 room k x y = leb (x.whole * 2 ^ y.places * U ^ k) (y.whole * 2 ^ x.places * N ^ k)
 
--- of what is rounded for the last time
+-- between lo and hi, and k roundings off, a value can be rounded once more in the normal range
 abbrev in_range : ℕ → Scaled → Scaled → Bool
 in_range k lo hi = room k least lo && room k hi most
 
@@ -62,14 +61,14 @@ fits lo hi (d ⊠ e) = fits lo hi d && (fits lo hi e && in_range (roundings d + 
 
 grows : (e : Formula) (x y : Scaled) → Under N U 0 x y → Under N U 0 (exactly e x) (exactly e y)
 grows var x y h = h
-grows (stored c) x y h = (near_self (exact c)).above
+grows (stored c) x y h = under_self N U (exact c)
 grows (d ⊞ e) x y h = under_sum N U (exactly d x) (exactly d y) (exactly e x) (exactly e y) 0 (grows d x y h) (grows e x y h)
 grows (d ⊠ e) x y h = under_product N U (exactly d x) (exactly d y) (exactly e x) (exactly e y) 0 0 (grows d x y h) (grows e x y h)
 
 under : (k : ℕ) (x y : Scaled) → room k x y ≡ true → Under U N k x y
 under k x y t = leb-true (x.whole * 2 ^ y.places * U ^ k) (y.whole * 2 ^ x.places * N ^ k) t
 
-module _ (k : ℕ) (lo hi a x : Scaled) (t : in_range k lo hi ≡ true) (from : Under N U 0 lo x) (to : Under N U 0 x hi) (h : Near k a x) where
+module _ {k : ℕ} {a x : Scaled} (lo hi : Scaled) (t : in_range k lo hi ≡ true) (from : Under N U 0 lo x) (to : Under N U 0 x hi) (h : Near k a x) where
   stays_normal : Normal a
   stays_normal =
       let s = and_parts _ _ t in
@@ -82,20 +81,20 @@ module _ (k : ℕ) (lo hi a x : Scaled) (t : in_range k lo hi ≡ true) (from : 
   step : Close (suc k) (rounded a) x
   step =
       let r = round_close a stays_normal in
-      record { above_zero = r.above_zero; near = rw one-add at (near_chain (exact (rounded a)) a x 1 k r.near h) }
+      record { above_zero = r.above_zero; near = rw one-add at (near_chain r.near h) }
 
 -- ---- a sum and a product
 
-module _ (v w : Float) (x y lo hi : Scaled) (j k : ℕ) (a : Close j v x) (b : Close k w y) where
+module _ {v w : Float} {x y : Scaled} {j k : ℕ} (a : Close j v x) (b : Close k w y) (lo hi : Scaled) where
   sum_close : in_range (max j k) lo hi ≡ true → Under N U 0 lo (x ⊕ y) → Under N U 0 (x ⊕ y) hi → Close (suc (max j k)) (v +ᶠ w) (x ⊕ y)
   sum_close t from to =
-      let n = near_sum (exact v) x (exact w) y (max j k) (near_more (exact v) x j (max j k) (le-max_left j k) a.near) (near_more (exact w) y k (max j k) (le-max_right j k) b.near) in
-      rw (add_rounded v w a.above_zero b.above_zero) (step (max j k) lo hi (exact v ⊕ exact w) (x ⊕ y) t from to n)
+      let n = near_sum (near_more (max j k) (le-max_left j k) a.near) (near_more (max j k) (le-max_right j k) b.near) in
+      rw (add_rounded v w a.above_zero b.above_zero) (step lo hi t from to n)
 
   product_close : in_range (j + k) lo hi ≡ true → Under N U 0 lo (x ⊗ y) → Under N U 0 (x ⊗ y) hi → Close (suc (j + k)) (v *ᶠ w) (x ⊗ y)
   product_close t from to =
       rw (mul_rounded v w a.above_zero b.above_zero)
-      (step (j + k) lo hi (exact v ⊗ exact w) (x ⊗ y) t from to (near_product (exact v) x (exact w) y j k a.near b.near))
+      (step lo hi t from to (near_product a.near b.near))
 
 -- ---- the law
 
@@ -108,14 +107,14 @@ module _ (lo hi : Scaled) (f : Float) (p : T (positive f)) (from : Under N U 0 l
       let h = exactly (d ⊞ e) hi in
       let s = and_parts _ _ t in
       let r = and_parts _ _ s.1 in
-      sum_close (in_binary32 d f) (in_binary32 e f) (exactly d (exact f)) (exactly e (exact f)) l h (roundings d) (roundings e) (counted d s.0) (counted e r.0) r.1
+      sum_close (counted d s.0) (counted e r.0) l h r.1
       (grows (d ⊞ e) lo (exact f) from) (grows (d ⊞ e) (exact f) hi to)
   counted (d ⊠ e) t =
       let l = exactly (d ⊠ e) lo in
       let h = exactly (d ⊠ e) hi in
       let s = and_parts _ _ t in
       let r = and_parts _ _ s.1 in
-      product_close (in_binary32 d f) (in_binary32 e f) (exactly d (exact f)) (exactly e (exact f)) l h (roundings d) (roundings e) (counted d s.0) (counted e r.0) r.1
+      product_close (counted d s.0) (counted e r.0) l h r.1
       (grows (d ⊠ e) lo (exact f) from) (grows (d ⊠ e) (exact f) hi to)
 
 -- ---- the roundings told in units
@@ -132,7 +131,7 @@ close_within k t v x h a =
     let n = one-le-pow k N (lit≤ tt) in
     let more = turn p q (N ^ k) (U ^ k) N (N + t) n (leb-true (U ^ k * N) (N ^ k * (N + t)) c.0) a.near.above in
     let less = turn q p (N ^ k) (U ^ k) (N - t) N n (leb-true (U ^ k * (N - t)) (N ^ k * N) c.1) a.near.below in
-    and_from _ _ (is_true (positive v) a.above_zero) (le-leb (distance p q * N) (t * q) (apart p q N t more less))
+    and_from _ _ (is_above_zero v a.above_zero) (le-leb (distance p q * N) (t * q) (apart p q N t more less))
   where
     -- of p ≤ q * (u / n) and u / n ≤ s / r
     turn : (p q n u r s : ℕ) → 0 < n → u * r ≤ n * s → p * n ≤ q * u → p * r ≤ q * s

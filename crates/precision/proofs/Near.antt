@@ -14,7 +14,7 @@ abbrev pub Under : ℕ → ℕ → ℕ → Scaled → Scaled → Type 0
 Under N U k x y = x.whole * 2 ^ y.places * N ^ k ≤ y.whole * 2 ^ x.places * U ^ k
 
 module _ (N U : ℕ) where
-  under_self : (x : Scaled) → Under N U 0 x x
+  pub under_self : (x : Scaled) → Under N U 0 x x
   under_self x = rw (pow-zero N, pow-zero U) (omega arith)
 
   -- N ≤ U
@@ -56,19 +56,19 @@ pub record Near (k : ℕ) (x y : Scaled) : Type 0 where
 pub near_self : (x : Scaled) → Near 0 x x
 near_self x = record { above = under_self N U x; below = under_self N U x }
 
-pub near_more : (x y : Scaled) (j k : ℕ) → j ≤ k → Near j x y → Near k x y
-near_more x y j k h a =
+pub near_more : {x y : Scaled} {j : ℕ} (k : ℕ) → j ≤ k → Near j x y → Near k x y
+near_more {x} {y} {j} k h a =
     let b : Near (j + (k - j)) x y = record { above = under_more N U x y j (k - j) (lit≤ tt) a.above; below = under_more N U y x j (k - j) (lit≤ tt) a.below } in
     rw (add-sub_of_le h) at b
 
-pub near_chain : (x y z : Scaled) (j k : ℕ) → Near j x y → Near k y z → Near (j + k) x z
-near_chain x y z j k a b =
+pub near_chain : {x y z : Scaled} {j k : ℕ} → Near j x y → Near k y z → Near (j + k) x z
+near_chain {x} {y} {z} {j} {k} a b =
     record { above = under_chain N U x y z j k a.above b.above; below = rw (add_comm k j) at (under_chain N U z y x k j b.below a.below) }
 
-pub near_product : (x y x' y' : Scaled) (j k : ℕ) → Near j x y → Near k x' y' → Near (j + k) (x ⊗ x') (y ⊗ y')
-near_product x y x' y' j k a b =
+pub near_product : {x y x' y' : Scaled} {j k : ℕ} → Near j x y → Near k x' y' → Near (j + k) (x ⊗ x') (y ⊗ y')
+near_product {x} {y} {x'} {y'} {j} {k} a b =
     record { above = under_product N U x y x' y' j k a.above b.above; below = under_product N U y x y' x' j k a.below b.below }
 
-pub near_sum : (x y x' y' : Scaled) (k : ℕ) → Near k x y → Near k x' y' → Near k (x ⊕ x') (y ⊕ y')
-near_sum x y x' y' k a b =
+pub near_sum : {x y x' y' : Scaled} {k : ℕ} → Near k x y → Near k x' y' → Near k (x ⊕ x') (y ⊕ y')
+near_sum {x} {y} {x'} {y'} {k} a b =
     record { above = under_sum N U x y x' y' k a.above b.above; below = under_sum N U y x y' x' k a.below b.below }

@@ -1,5 +1,5 @@
--- The polynomials as formulas: 4, 7, 16 and 32 roundings. Another one is its formula, `counts` by computation, and the two sides by `refl`.
--- Assumes nothing.
+-- The polynomials as formulas: 4, 7, 16 and 32 roundings. That the two values of a formula are those of `Precision` is seen where Bounds.antt
+-- uses it. Assumes nothing.
 use mathlib.Core.Path.{◌≡◌, refl}
 use mathlib.Core.Bool.{true}
 use mathlib.Core.List.{List, [], ◌∷◌}

@@ -5,10 +5,11 @@ use mathlib.Core.Bool.{true, false, not}
 use Prim.Native.Nat.{ℕ, zero, suc, ◌+◌, ◌-◌, ◌*◌, ◌/◌, ◌%◌, ◌^◌, ◌≤◌, ◌<◌, compare, Ordering}
 use native.Mathlib.Nat.{le_of_mul-le-mul_right, lt_of_le_of_lt, div-add-mod', le-div_iff_mul-le, le_trans, mod-lt, mul-le-mul_right, mul-one, mul-pos}
 use native.Mathlib.Omega.{arith}
-use lib.Dec.{T, is_le, compare_is_eq, leb→le, nleb→lt, eqb→eq, lit≤}
+use lib.Dec.{T, ltb, is_le, compare_is_eq, leb→le, nleb→lt, eqb→eq, lit≤}
 use lib.IntN.{pos, negsuc}
 use lib.Pow.{pow-add, pow_pos}
 use lib.Ieee.{Float, nan, inf, fin, binary32, size, nearest, round, sum, add}
+use lib.Ieee.Bits.{is_true}
 use lib.Ieee.Digits.{size_reaches}
 use lib.Ieee.Exact.{HasValue}
 use lib.Ieee.Nearest.{closest, nearest-ge}
@@ -16,7 +17,7 @@ use lib.Ieee.Order.{drop, kept}
 use lib.Ieee.Scale.{grid, overflow, round_val, normal_of_fraction}
 use lib.Ieee.Positive.{num, den, positive, den_pos, own_value, mul_at, value→cross, positive_of_value}
 use Rattle.filter_core.specs.Arithmetic.{◌+ᶠ◌, ◌*ᶠ◌}
-use Rattle.precision.specs.Exact.{Scaled, ◌⊕◌, ◌⊗◌, exact}
+use Rattle.precision.specs.Exact.{Scaled, ◌⊕◌, ◌⊗◌, above_zero, exact}
 use Rattle.precision.proofs.Near.{N, U, Under, Near, near_chain}
 
 -- ---- the nearest whole number is at most half off
@@ -76,6 +77,12 @@ scale_is (inf s) = refl
 scale_is (fin s m (pos e)) = refl
 scale_is (fin s m (negsuc e)) = refl
 
+pub is_above_zero : (v : Float) → T (positive v) → above_zero v ≡ true
+is_above_zero nan p = absurd p
+is_above_zero (inf s) p = absurd p
+is_above_zero (fin true m e) p = absurd p
+is_above_zero (fin false m e) p = is_true (ltb 0 m) p
+
 -- ---- rounded
 
 abbrev pub rounded : Scaled → Float
@@ -92,16 +99,16 @@ pub record Normal (s : Scaled) : Type 0 where
   pub from : Under N U 0 least s
   pub to : Under N U 0 s most
 
--- in units of 2 ^ -149
-abbrev units : Scaled → ℕ
-units s = grid binary32 s.whole (2 ^ s.places)
+-- in steps of 2 ^ -149
+abbrev steps : Scaled → ℕ
+steps s = grid binary32 s.whole (2 ^ s.places)
 
-abbrev of_units : Scaled → Scaled
-of_units s = record { whole = units s; places = 149 }
+abbrev of_steps : Scaled → Scaled
+of_steps s = record { whole = steps s; places = 149 }
 
 module _ (s : Scaled) (h : Normal s) where
-  units_near : Near 1 (of_units s) s
-  units_near =
+  steps_near : Near 1 (of_steps s) s
+  steps_near =
       let n = s.whole * 2 ^ 149 in
       let c = 2 ^ s.places in
       let z = normal_of_fraction binary32 s.whole c (pow_pos s.places) (scaled (2 ^ 23) c s.whole (2 ^ 126) (2 ^ 149) (omega (arith, h.from)) (lit≤ tt)) in
@@ -111,16 +118,16 @@ module _ (s : Scaled) (h : Normal s) where
       scaled : (m c a i l : ℕ) → c ≤ a * i → m * i ≤ l → m * c ≤ a * l
       scaled m c a i l b d = omega (arith, mul-le-mul_right m b, mul-le-mul_right a d)
 
-  units_above_zero : 0 < units s
-  units_above_zero = go s.whole (2 ^ s.places) (units s) (2 ^ 126) (2 ^ 149) (pow_pos s.places) (omega (arith, h.from)) (pow_pos 149) units_near.below
+  steps_above_zero : 0 < steps s
+  steps_above_zero = go s.whole (2 ^ s.places) (steps s) (2 ^ 126) (2 ^ 149) (pow_pos s.places) (omega (arith, h.from)) (pow_pos 149) steps_near.below
     where
       go : (a c g i l : ℕ) → 0 < c → c ≤ a * i → 0 < l → a * l * 2 ^ 24 ≤ g * c * (2 ^ 24 + 1) → 0 < g
       go zero c g i l C b L d = omega (arith, C, b)
       go (suc a) c zero i l C b L d = omega (arith, d, mul-pos L C)
       go (suc a) c (suc g) i l C b L d = omega arith
 
-  units_in_range : units s < overflow binary32
-  units_in_range = go s.whole (2 ^ s.places) (units s) (2 ^ 126) (2 ^ 149) (2 ^ 277) (pow_pos s.places) (omega (arith, h.to)) (lit≤ tt) units_near.above
+  steps_in_range : steps s < overflow binary32
+  steps_in_range = go s.whole (2 ^ s.places) (steps s) (2 ^ 126) (2 ^ 149) (2 ^ 277) (pow_pos s.places) (omega (arith, h.to)) (lit≤ tt) steps_near.above
     where
       go : (a c g j l o : ℕ) → 0 < c → a ≤ c * j → j * l * 2 < o → g * c * 2 ^ 24 ≤ a * l * (2 ^ 24 + 1) → g < o
       go a c g j l o C b d e = lt_of_le_of_lt (le_of_mul-le-mul_right {k = c} (omega (arith, e, mul-le-mul_right l b)) C) d
@@ -140,10 +147,10 @@ pub record Close (k : ℕ) (v : Float) (x : Scaled) : Type 0 where
 
 pub round_close : (s : Scaled) → Normal s → Close 1 (rounded s) s
 round_close s h =
-    let v = round_val binary32 s.whole (2 ^ s.places) (units_in_range s h) in
+    let v = round_val binary32 s.whole (2 ^ s.places) (steps_in_range s h) in
     record {
-      above_zero = positive_of_value (rounded s) (units s) (2 ^ 149) v (units_above_zero s h);
-      near = near_chain (exact (rounded s)) (of_units s) s 0 1 (value_near (rounded s) (units s) 149 v) (units_near s h);
+      above_zero = positive_of_value (rounded s) (steps s) (2 ^ 149) v (steps_above_zero s h);
+      near = near_chain (value_near (rounded s) (steps s) 149 v) (steps_near s h);
     }
 
 -- ---- a sum and a product of values above zero are the exact ones, rounded

@@ -2,17 +2,23 @@
 -- that are stored; how far that is from the tangent itself is another matter.
 use Rattle.std.specs.Prelude.{◌≡◌, ◌≤◌, ℕ, Bool, true, ◌&&◌, List, [], ◌∷◌, Float}
 use Rattle.std.specs.Float.Ieee.{le}
-use Rattle.filter_core.specs.Arithmetic.{word, halfᶠ, πᶠ}
+use Rattle.filter_core.specs.Arithmetic.{word, πᶠ}
 use Rattle.filter_core.specs.declared.FrequencyApproximation.TheVariants.{Accurate, Fast, Dirty, Series}
 use Rattle.one_pole.specs.Tangent.{dirty_a, fast_a, fast_b, accurate_a, accurate_b, accurate_c, accurate_d, accurate_e, tangent_row, tan_of}
 use Rattle.precision.specs.Exact.{Scaled, ◌⊕◌, ◌⊗◌, exact, within}
 
--- 2 ^ -20 and 0.5, the ends of the span
+-- the span, by its words: from 2 ^ -20 to 0.5
+abbrev pub first : ℕ
+first = 0x3580_0000
+
+abbrev pub last : ℕ
+last = 0x3f00_0000
+
 abbrev pub lowest : Float
-lowest = word 0x3580_0000
+lowest = word first
 
 abbrev pub highest : Float
-highest = halfᶠ
+highest = word last
 
 abbrev pub in_span : Float → Bool
 in_span f = le lowest f && le f highest
@@ -30,7 +36,7 @@ exact_accurate f =
     let y = f ⊗ f in
     f ⊗ (exact πᶠ ⊕ y ⊗ (exact accurate_a ⊕ y ⊗ (exact accurate_b ⊕ y ⊗ (exact accurate_c ⊕ y ⊗ (exact accurate_d ⊕ y ⊗ exact accurate_e)))))
 
--- c₀ + y * (c₁ + y * (c₂ + ..))
+-- beside `horner`: c₀ + y * (c₁ + y * (c₂ + ..)), and 0 for no coefficient
 abbrev pub exact_horner : Scaled → List Float → Scaled
 exact_horner y [] = record { whole = 0; places = 0 }
 exact_horner y (c ∷ []) = exact c
@@ -43,7 +49,7 @@ exact_series f = let x = exact πᶠ ⊗ f in x ⊗ exact_horner (x ⊗ x) tange
 
 pub record Precision : Type 0 where
   -- every word of the span is in it
-  pub words : (n : ℕ) → 0x3580_0000 ≤ n → n ≤ 0x3f00_0000 → in_span (word n) ≡ true
+  pub words : (n : ℕ) → first ≤ n → n ≤ last → in_span (word n) ≡ true
   -- and for every float in it
   pub dirty : (f : Float) → in_span f ≡ true → within 5 (tan_of f Dirty) (exact_dirty (exact f)) ≡ true
   pub fast : (f : Float) → in_span f ≡ true → within 8 (tan_of f Fast) (exact_fast (exact f)) ≡ true
