@@ -121,12 +121,12 @@ impl Run {
 
     fn errors(&self) -> String {
         let mut lines = String::new();
-        for (setting, exact) in POLYNOMIALS {
+        for (setting, polynomial) in POLYNOMIALS {
             let mut least = (f64::INFINITY, 0);
             let mut greatest = (f64::NEG_INFINITY, 0);
             let mut beyond = vec![];
             for (w, f) in self.words() {
-                let exact = exact(f64::from(f));
+                let exact = polynomial(f64::from(f));
                 let error = (f64::from(answer(f, setting)) - exact) / exact * UNITS;
                 if error < least.0 {
                     least = (error, w);
