@@ -3,7 +3,7 @@
 use Rattle.std.specs.Prelude.{◌≡◌, ◌≤◌, ℕ, Bool, true, ◌&&◌, List, [], ◌∷◌, Float}
 use Rattle.std.specs.Float.Ieee.{le}
 use Rattle.filter_core.specs.Arithmetic.{word, πᶠ}
-use Rattle.filter_core.specs.declared.FrequencyApproximation.TheVariants.{Accurate, Fast, Dirty, Series}
+use Rattle.filter_core.specs.declared.FrequencyApproximation.TheVariants.{Exact, Accurate, Fast, Dirty, Series}
 use Rattle.one_pole.specs.Tangent.{dirty_a, fast_a, fast_b, accurate_a, accurate_b, accurate_c, accurate_d, accurate_e, tangent_row, tan_of}
 use Rattle.precision.specs.Exact.{Scaled, ◌⊕◌, ◌⊗◌, exact, within}
 
@@ -55,3 +55,5 @@ pub record Precision : Type 0 where
   pub fast : (f : Float) → in_span f ≡ true → within 8 (tan_of f Fast) (exact_fast (exact f)) ≡ true
   pub accurate : (f : Float) → in_span f ≡ true → within 17 (tan_of f Accurate) (exact_accurate (exact f)) ≡ true
   pub series : (f : Float) → in_span f ≡ true → within 33 (tan_of f Series) (exact_series (exact f)) ≡ true
+  -- up to 0.25 Exact is by the series too
+  pub exact : (f : Float) → in_span f ≡ true → le f (word 0x3e80_0000) ≡ true → within 33 (tan_of f Exact) (exact_series (exact f)) ≡ true
