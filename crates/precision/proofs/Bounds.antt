@@ -36,5 +36,5 @@ precision = record {
   fast = bounded fast _ fast_counts;
   accurate = bounded accurate _ accurate_counts;
   series = by_series;
-  exact = λ f i q. rw (exact_is f i q) (by_series f i);
+  exact_to_quarter = λ f i q. rw (exact_is f i q) (by_series f i);
 }

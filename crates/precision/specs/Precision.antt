@@ -56,4 +56,4 @@ pub record Precision : Type 0 where
   pub accurate : (f : Float) → in_span f ≡ true → within 17 (tan_of f Accurate) (exact_accurate (exact f)) ≡ true
   pub series : (f : Float) → in_span f ≡ true → within 33 (tan_of f Series) (exact_series (exact f)) ≡ true
   -- up to 0.25 Exact is by the series too
-  pub exact : (f : Float) → in_span f ≡ true → le f (word 0x3e80_0000) ≡ true → within 33 (tan_of f Exact) (exact_series (exact f)) ≡ true
+  pub exact_to_quarter : (f : Float) → in_span f ≡ true → le f (word 0x3e80_0000) ≡ true → within 33 (tan_of f Exact) (exact_series (exact f)) ≡ true
