@@ -60,7 +60,7 @@ enum {
  * for that; below 0, down to -0.497, its value is the negative of that at -f, and the filter grows from sample to
  * sample unless its resonance is below 0 too. MOTIF_SERIES, which sheets of edition 2 have and filter.rs has not, is the tangent's whole
  * series at every frequency: from -0.25 to 0.25 what MOTIF_EXACT has, and the same polynomial beyond. naive_svf_set_f_q clips the frequency
- * at 0.158 in all but MOTIF_EXACT. docs/PRECISION.md says how true each is, and how near to the tangent. */
+ * at 0.158 in all but MOTIF_EXACT. docs/PRECISION.md says how true the tangent is in each. */
 enum {
     MOTIF_EXACT = 0,
     MOTIF_ACCURATE = 1,

@@ -23,8 +23,8 @@ pub enum FilterMode {
 }
 
 /// How a frequency, as a part of the sampling rate, becomes a coefficient. These are the source's four, so that a `match` on them that is
-/// written for `filter.rs` has every case. There is a fifth in sheets of edition 2 and in C (`MOTIF_SERIES`), and none here. How true each is,
-/// and how near to the tangent: docs/PRECISION.md.
+/// written for `filter.rs` has every case. There is a fifth in sheets of edition 2 and in C (`MOTIF_SERIES`), and none here. How true the
+/// tangent is in each: docs/PRECISION.md.
 ///
 /// ```
 /// use motif_filters::{FrequencyApproximation, OnePole};

@@ -9,7 +9,7 @@ use Rattle.std.proofs.lemmas.Float.{T_from_true, lt_of_le_of_lt}
 use Rattle.filter_core.specs.Arithmetic.{word, zeroᶠ}
 use Rattle.filter_core.specs.declared.FrequencyApproximation.TheVariants.{Exact, Series}
 use Rattle.one_pole.specs.Tangent.{tan_of}
-use Rattle.precision.specs.Exact.{exact, within}
+use Rattle.precision.specs.Scaled.{exact, within}
 use Rattle.precision.specs.Precision.{lowest, highest, in_span, exact_series, Precision}
 use Rattle.precision.proofs.Counted.{Formula, in_binary32, exactly, within_span}
 use Rattle.precision.proofs.Words.{words_in_span}
@@ -19,9 +19,9 @@ bounded : (e : Formula) (t : ℕ) → over_span e t → (f : Float) → in_span 
 bounded e t = within_span lowest highest e t
 
 -- up to 0.25 Exact neither mirrors, nor clips, nor takes a reciprocal
-exact_is : (f : Float) → in_span f ≡ true → le f (word 0x3e80_0000) ≡ true → tan_of f Exact ≡ tan_of f Series
+setting_exact_is : (f : Float) → in_span f ≡ true → le f (word 0x3e80_0000) ≡ true → tan_of f Exact ≡ tan_of f Series
 unfolding lt of_bits
-exact_is f i q =
+setting_exact_is f i q =
     let a : lt f zeroᶠ ≡ false = false_from_ne_true (lt f zeroᶠ) (λ h. lt_of_le_of_lt lowest f zeroᶠ (T_from_true (le lowest f) (and_parts _ _ i).0) (T_from_true (lt f zeroᶠ) h)) in
     let b : lt f (word 0x3efe_76c9) ≡ true = is_true (lt f (word 0x3efe_76c9)) (lt_of_le_of_lt f (word 0x3e80_0000) (word 0x3efe_76c9) (T_from_true (le f (word 0x3e80_0000)) q) tt) in
     rw (a, b, q) refl
@@ -36,5 +36,5 @@ precision = record {
   fast = bounded fast _ fast_counts;
   accurate = bounded accurate _ accurate_counts;
   series = by_series;
-  exact_to_quarter = λ f i q. rw (exact_is f i q) (by_series f i);
+  setting_exact_to_quarter = λ f i q. rw (setting_exact_is f i q) (by_series f i);
 }

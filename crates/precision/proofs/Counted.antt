@@ -1,4 +1,4 @@
--- A formula of sums and products, evaluated in binary32: its roundings are counted, and its value is that near to the exact one.
+-- A formula of sums and products, evaluated in binary32: its roundings are counted, and by so many its value may be off the exact one.
 -- Assumes nothing.
 use mathlib.Core.Path.{◌≡◌}
 use mathlib.Core.Bool.{Bool, true, ◌&&◌}
@@ -13,7 +13,7 @@ use Rattle.std.proofs.lemmas.Bool.{and_from, and_parts, leb-true, le-leb}
 use Rattle.std.proofs.lemmas.Float.{T_from_true}
 use Rattle.std.proofs.Math.Nat.{le-max_left, le-max_right}
 use Rattle.filter_core.specs.Arithmetic.{◌+ᶠ◌, ◌*ᶠ◌}
-use Rattle.precision.specs.Exact.{Scaled, ◌⊕◌, ◌⊗◌, exact, distance, within}
+use Rattle.precision.specs.Scaled.{Scaled, ◌⊕◌, ◌⊗◌, exact, distance, within}
 use Rattle.precision.proofs.Near.{N, U, Under, under_self, under_chain, under_back, under_product, under_sum, Near, near_self, near_more, near_chain, near_product, near_sum}
 use Rattle.precision.proofs.Rounding.{whole_is, scale_is, rounded, least, most, Normal, Close, round_close, mul_rounded, add_rounded, is_above_zero}
 
@@ -36,7 +36,7 @@ exactly (stored c) f = exact c
 exactly (d ⊞ e) f = exactly d f ⊕ exactly e f
 exactly (d ⊠ e) f = exactly d f ⊗ exactly e f
 
--- in a sum the two values are rounded side by side, in a product they add up
+-- a sum has the roundings of the side with more, a product those of both; and one for the operation
 abbrev pub roundings : Formula → ℕ
 roundings var = 0
 roundings (stored c) = 0
@@ -117,13 +117,13 @@ module _ (lo hi : Scaled) (f : Float) (p : T (positive f)) (from : Under N U 0 l
       product_close (counted d s.0) (counted e r.0) l h r.1
       (grows (d ⊠ e) lo (exact f) from) (grows (d ⊠ e) (exact f) hi to)
 
--- ---- the roundings told in units
+-- ---- from roundings to units
 
 -- (1 + 2 ^ -24) ^ k is at most 1 + t * 2 ^ -24, and its inverse at least 1 - t * 2 ^ -24
-abbrev told : ℕ → ℕ → Bool
-told k t = leb (U ^ k * N) (N ^ k * (N + t)) && leb (U ^ k * (N - t)) (N ^ k * N)
+abbrev units_cover : ℕ → ℕ → Bool
+units_cover k t = leb (U ^ k * N) (N ^ k * (N + t)) && leb (U ^ k * (N - t)) (N ^ k * N)
 
-close_within : (k t : ℕ) (v : Float) (x : Scaled) → told k t ≡ true → Close k v x → within t v x ≡ true
+close_within : (k t : ℕ) (v : Float) (x : Scaled) → units_cover k t ≡ true → Close k v x → within t v x ≡ true
 close_within k t v x h a =
     let p = (exact v).whole * 2 ^ x.places in
     let q = x.whole * 2 ^ (exact v).places in
@@ -144,7 +144,7 @@ close_within k t v x h a =
 
 -- all that the law asks, by computation
 abbrev pub counts : Float → Float → Formula → ℕ → Bool
-counts from to e t = positive from && positive to && fits (exact from) (exact to) e && told (roundings e) t
+counts from to e t = positive from && positive to && fits (exact from) (exact to) e && units_cover (roundings e) t
 
 pub within_span : (from to : Float) (e : Formula) (t : ℕ) → counts from to e t ≡ true → (f : Float) → (le from f && le f to) ≡ true → within t (in_binary32 e f) (exactly e (exact f)) ≡ true
 within_span from to e t h f i =

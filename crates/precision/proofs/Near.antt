@@ -1,11 +1,11 @@
 -- Near: of two exact numbers either is at most (1 + 2 ^ -24) ^ k times the other, as k roundings leave them. How that goes through chains,
--- products and sums: there are no terms of second order, and only at the end are the k told in units. Assumes nothing.
+-- products and sums: there are no terms of second order, and only at the end are k roundings turned into units. Assumes nothing.
 use Prim.Native.Nat.{ℕ, ◌+◌, ◌-◌, ◌*◌, ◌^◌, ◌≤◌, ◌<◌}
 use native.Mathlib.Nat.{add_comm, add-sub_of_le, le_of_mul-le-mul_right, mul-le-mul, mul-le-mul_right, mul-pos, one-le-pow, pow-le-pow_left, pow-zero}
 use native.Mathlib.Omega.{arith}
 use lib.Dec.{lit≤}
 use lib.Pow.{pow-add, pow_pos}
-use Rattle.precision.specs.Exact.{Scaled, ◌⊕◌, ◌⊗◌}
+use Rattle.precision.specs.Scaled.{Scaled, ◌⊕◌, ◌⊗◌}
 
 -- ---- one side, by any two numbers
 

@@ -17,7 +17,7 @@ use lib.Ieee.Order.{drop, kept}
 use lib.Ieee.Scale.{grid, overflow, round_val, normal_of_fraction}
 use lib.Ieee.Positive.{num, den, positive, den_pos, own_value, mul_at, value→cross, positive_of_value}
 use Rattle.filter_core.specs.Arithmetic.{◌+ᶠ◌, ◌*ᶠ◌}
-use Rattle.precision.specs.Exact.{Scaled, ◌⊕◌, ◌⊗◌, above_zero, exact}
+use Rattle.precision.specs.Scaled.{Scaled, ◌⊕◌, ◌⊗◌, above_zero, exact}
 use Rattle.precision.proofs.Near.{N, U, Under, Near, near_chain}
 
 -- ---- the nearest whole number is at most half off

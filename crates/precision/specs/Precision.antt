@@ -1,11 +1,11 @@
--- 02 g: how true the source's polynomials for tan (π f) are. Each is held against its own exact value at the same f, with the coefficients
--- that are stored; how far that is from the tangent itself is another matter.
+-- 02 g: how true the polynomials for tan (π f) are, the source's three and 02 a's. Each is held against its own exact value at the same f, with
+-- the coefficients that are stored; how far that is from the tangent itself is another matter.
 use Rattle.std.specs.Prelude.{◌≡◌, ◌≤◌, ℕ, Bool, true, ◌&&◌, List, [], ◌∷◌, Float}
 use Rattle.std.specs.Float.Ieee.{le}
 use Rattle.filter_core.specs.Arithmetic.{word, πᶠ}
 use Rattle.filter_core.specs.declared.FrequencyApproximation.TheVariants.{Exact, Accurate, Fast, Dirty, Series}
 use Rattle.one_pole.specs.Tangent.{dirty_a, fast_a, fast_b, accurate_a, accurate_b, accurate_c, accurate_d, accurate_e, tangent_row, tan_of}
-use Rattle.precision.specs.Exact.{Scaled, ◌⊕◌, ◌⊗◌, exact, within}
+use Rattle.precision.specs.Scaled.{Scaled, ◌⊕◌, ◌⊗◌, exact, within}
 
 -- the span, by its words: from 2 ^ -20 to 0.5
 abbrev pub first : ℕ
@@ -23,7 +23,7 @@ highest = word last
 abbrev pub in_span : Float → Bool
 in_span f = le lowest f && le f highest
 
--- ---- the exact values, beside `tan_dirty`, `tan_fast`, `tan_accurate` and `tan_by_series`
+-- ---- the exact values, beside `tan_dirty`, `tan_fast`, `tan_accurate` and `tan_by_series`: a stored coefficient is what the code multiplies by
 
 abbrev pub exact_dirty : Scaled → Scaled
 exact_dirty f = f ⊗ (exact πᶠ ⊕ exact dirty_a ⊗ f ⊗ f)
@@ -55,5 +55,5 @@ pub record Precision : Type 0 where
   pub fast : (f : Float) → in_span f ≡ true → within 8 (tan_of f Fast) (exact_fast (exact f)) ≡ true
   pub accurate : (f : Float) → in_span f ≡ true → within 17 (tan_of f Accurate) (exact_accurate (exact f)) ≡ true
   pub series : (f : Float) → in_span f ≡ true → within 33 (tan_of f Series) (exact_series (exact f)) ≡ true
-  -- up to 0.25 Exact is by the series too
-  pub exact_to_quarter : (f : Float) → in_span f ≡ true → le f (word 0x3e80_0000) ≡ true → within 33 (tan_of f Exact) (exact_series (exact f)) ≡ true
+  -- the setting Exact, which up to 0.25 answers what Series does
+  pub setting_exact_to_quarter : (f : Float) → in_span f ≡ true → le f (word 0x3e80_0000) ≡ true → within 33 (tan_of f Exact) (exact_series (exact f)) ≡ true

@@ -11,7 +11,7 @@ use Rattle.dc_blocker.specs.declared.DcBlocker.{DcBlocker}
 use Rattle.one_pole.specs.OnePole.{one_pole_next, one_pole_out}
 use Rattle.one_pole.specs.Tangent.{tan_of}
 use Rattle.one_pole.specs.declared.OnePole.{OnePole}
-use Rattle.precision.specs.Exact.{Scaled, exact, within}
+use Rattle.precision.specs.Scaled.{Scaled, exact, within}
 use Rattle.precision.specs.Precision.{exact_dirty, exact_fast, exact_accurate, exact_series}
 use Rattle.svf.specs.Svf.{svf_next, svf_out, svf_multimode}
 use Rattle.svf.specs.declared.Svf.{Svf}
@@ -423,8 +423,8 @@ pub record WorkedExamples : Type 0 where
   pub trial_count : length routines ≡ 254
   pub trial_last : routine_at 253 ≡ Some (Load ∷ Rest ∷ Rest ∷ Rest ∷ Rest ∷ [])
   pub trial_end : routine_at 254 ≡ None
-  -- document 02, g: at 0.25 the exact polynomials are 16213457 / 2 ^ 24, 267849275 / 2 ^ 28 and 34276890623 / 2 ^ 35. Of the units that are
-  -- proved, 5, 8, 17 and 33, the worst f take more than 2, 2, 4 and 10
+  -- document 02, g: at 0.25 the exact polynomials are 16213457 / 2 ^ 24, 267849275 / 2 ^ 28 and 34276890623 / 2 ^ 35. At the worst f
+  -- the errors are more than 2, 2, 4 and 10 of the 5, 8, 17 and 33 units that are proved
   pub exact_dirty_quarter : is_fraction (exact_dirty (exact quarterᶠ)) 16213457 24
   pub exact_fast_quarter : is_fraction (exact_fast (exact quarterᶠ)) 267849275 28
   pub exact_accurate_quarter : is_fraction (exact_accurate (exact quarterᶠ)) 34276890623 35

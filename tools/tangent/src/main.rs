@@ -15,7 +15,7 @@ use std::sync::atomic::{AtomicUsize, Ordering};
 
 const UNITS: f64 = 16_777_216.0;
 
-// Errors are sorted by whole units up to here, which is far beyond every bound.
+// Errors are sorted by whole units up to here; a bound beyond it needs it raised, since tools/precision looks up the first f there.
 const MOST: usize = 64;
 
 const fn word(bits: u32) -> f32 {

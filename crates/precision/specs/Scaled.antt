@@ -22,14 +22,14 @@ above_zero nan = false
 above_zero (inf s) = false
 above_zero (fin s m e) = not s && ltb 0 m
 
--- the size of a number, and 0 for what is none
+-- |v| as it stands, and 0 for a NaN or an infinity: the sign is left out, since every stored coefficient and every f of the span is above zero
 abbrev pub exact : Float → Scaled
 exact nan = record { whole = 0; places = 0 }
 exact (inf s) = record { whole = 0; places = 0 }
 exact (fin s m (pos e)) = record { whole = m * 2 ^ e; places = 0 }
 exact (fin s m (negsuc e)) = record { whole = m; places = suc e }
 
--- |a - b|
+-- |a - b|: one of the two differences is 0
 abbrev pub distance : ℕ → ℕ → ℕ
 distance a b = a - b + (b - a)
 
