@@ -1,8 +1,11 @@
 // Which setter an entry's kind byte names, and with which approximation.
 
-ghost use Rattle.std.specs.Prelude.{◌≡◌, suc, length, slice_get};
+ghost use Rattle.std.specs.Prelude.{◌≡◌, ℕ, suc, ◌<◌, ◌≤◌, cond, ltb, length, get_or, slice_get, None, Some, IsSome};
+ghost use Rattle.std.specs.Option.{option_and_then};
+ghost use Rattle.filter_core.specs.declared.FrequencyApproximation.TheVariants.{Series};
 ghost use Rattle.sheets.specs.Edition.{approximations_in};
-ghost use Rattle.sheets.specs.Kind.{exact, setter_for, setter_in, setter_of};
+ghost use Rattle.sheets.specs.Kind.{setter_for, setter_in, setter_of};
+ghost use Rattle.sheets.specs.declared.edition.Edition.TheVariants.{Two};
 
 use crate::edition::Edition;
 use filter_core::FrequencyApproximation;
@@ -18,9 +21,12 @@ pub enum Setter {
     CrossoverSvf,
 }
 
+// ---- the limits of a kind byte's high half (02 d); that they are below 5 is for the choice behind them
+
 // The last approximation that an edition has.
 fn last_approximation(edition: Edition) -> u8
-    ensures { length (approximations_in edition) ≡ suc result }
+    ensures edition_len { length (approximations_in edition) ≡ suc result }
+    ensures upper_bound { result < 5 }
 {
     match edition {
         Edition::One => 3,
@@ -28,47 +34,74 @@ fn last_approximation(edition: Edition) -> u8
     }
 }
 
-// The approximation of a kind byte's high half, up to the limit of the edition (02 d).
-fn approximation_in(edition: Edition, n: u8) -> Option<FrequencyApproximation>
-    ensures { result ≡ slice_get (approximations_in edition) n }
+// The last that a kind takes: 2, 3 and 5 take all that the edition has, the others 0 alone. Past it there is no setter, up to it the kind's.
+fn last_for_kind(edition: Edition, kind: u8) -> u8
+    requires { (0 < kind) × (kind < 8) }
+    ensures by_number { (p : ℕ) → option_and_then (setter_for kind) (slice_get (approximations_in edition) p)
+        ≡ cond (ltb result p) None (setter_for kind (get_or (approximations_in edition) p Series)) }
+    ensures taken { (p : ℕ) → p ≤ result → IsSome (setter_for kind (get_or (approximations_in Two) p Series)) }
+    ensures upper_bound { result < 5 }
 {
-    if last_approximation(edition) < n {
-        return None;
+    if kind < 2 {
+        return 0;
     }
-    FrequencyApproximation::try_from(u32::from(n)).ok()
+    if kind == 4 {
+        return 0;
+    }
+    if 5 < kind {
+        return 0;
+    }
+    last_approximation(edition)
 }
 
-// A setter that takes approximation 0 only.
-fn exact(setter: Setter, approximation: FrequencyApproximation) -> Option<Setter>
-    ensures { result ≡ exact setter approximation }
+// ---- the choice of what the limits let through: the last arm is the last case
+
+fn approximation_of(n: u8) -> FrequencyApproximation
+    requires { n < 5 }
+    ensures { result ≡ get_or (approximations_in Two) n Series }
 {
-    match approximation {
-        FrequencyApproximation::Exact => Some(setter),
-        _ => None,
+    match n {
+        0 => FrequencyApproximation::Exact,
+        1 => FrequencyApproximation::Accurate,
+        2 => FrequencyApproximation::Fast,
+        3 => FrequencyApproximation::Dirty,
+        _ => FrequencyApproximation::Series,
     }
 }
 
-// A kind is a number in a sheet, and a setter behind this match.
-fn setter_for(kind: u8, approximation: FrequencyApproximation) -> Option<Setter>
-    ensures { result ≡ setter_for kind approximation }
+fn setter_for(kind: u8, approximation: FrequencyApproximation) -> Setter
+    requires { (0 < kind) × (kind < 8) }
+    ensures { IsSome (setter_for kind approximation) → Some result ≡ setter_for kind approximation }
 {
     match kind {
-        1 => exact(Setter::DcBlocker, approximation),
-        2 => Some(Setter::OnePole(approximation)),
-        3 => Some(Setter::SvfFrequency(approximation)),
-        4 => exact(Setter::SvfCoefficients, approximation),
-        5 => Some(Setter::NaiveSvf(approximation)),
-        6 => exact(Setter::ModifiedSvf, approximation),
-        7 => exact(Setter::CrossoverSvf, approximation),
-        _ => None,
+        1 => Setter::DcBlocker,
+        2 => Setter::OnePole(approximation),
+        3 => Setter::SvfFrequency(approximation),
+        4 => Setter::SvfCoefficients,
+        5 => Setter::NaiveSvf(approximation),
+        6 => Setter::ModifiedSvf,
+        _ => Setter::CrossoverSvf,
     }
 }
 
-// A kind byte: its low half is the kind, its high half the approximation. None where it names no setter.
+// ---- a kind byte: its low half is the kind, its high half the approximation
+
+// None where it names no setter.
 pub fn setter_in(edition: Edition, kind: u8) -> Option<Setter>
     ensures { result ≡ setter_in edition kind }
 {
-    setter_for(kind % 16, approximation_in(edition, kind / 16)?)
+    let low = kind % 16;
+    let high = kind / 16;
+    if low < 1 {
+        return None;
+    }
+    if 7 < low {
+        return None;
+    }
+    if last_for_kind(edition, low) < high {
+        return None;
+    }
+    Some(setter_for(low, approximation_of(high)))
 }
 
 // As a load asks for it: by edition 2, where a byte of edition 1 means the same.
