@@ -39,6 +39,10 @@ put_over v s out = over 1 (edition_byte v ∷ []) (over 0 s out)
 abbrev pub convert_number : Edition → List ℕ → List ℕ → ℕ
 convert_number v s out = convert_refusal v s (length out)
 
+-- what an accepted conversion of s answers: how many bytes it has written
+abbrev pub convert_length : List ℕ → ℕ
+convert_length s = length s
+
 -- a refused one leaves the output as it was
 abbrev pub converted_of : Edition → List ℕ → List ℕ → List ℕ
 converted_of v s out = unless_refused (convert_refusal v s (length out)) out (put_over v s out)

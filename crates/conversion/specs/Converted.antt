@@ -9,7 +9,7 @@ use Rattle.sheets.specs.declared.edition.Edition.{Edition}
 use Rattle.sheets.specs.declared.edition.Edition.TheVariants.{One, Two}
 use Rattle.library.specs.Library.{library_of, write_number, sheet_length, written_of}
 use Rattle.library.specs.declared.Library.{Library}
-use Rattle.conversion.specs.Conversion.{convert_number, converted_of}
+use Rattle.conversion.specs.Conversion.{convert_number, convert_length, converted_of}
 use Rattle.conversion.specs.Rows.{UsesSeries, ConvertCase}
 
 -- the sheet s with the second byte of the edition v
@@ -18,12 +18,12 @@ in_edition v s = set s 1 (edition_byte v)
 
 -- the sheet that a conversion wrote: as many bytes of the output as it answers
 abbrev pub written_sheet : Edition → List ℕ → List ℕ → List ℕ
-written_sheet v s out = take (length s) (converted_of v s out)
+written_sheet v s out = take (convert_length s) (converted_of v s out)
 
 -- the conversion of s to the edition v writes t, all of it, and leaves what stood behind
 pub record Writes (v : Edition) (s out t : List ℕ) : Type 0 where
   pub accepted : convert_number v s out ≡ 0
-  pub answer : length s ≡ length t
+  pub answer : convert_length s ≡ length t
   pub bytes : converted_of v s out ≡ t ++ drop (length t) out
 
 -- t has the entries of s, under the same numbers
@@ -55,7 +55,7 @@ library_in v l = record { edition = v; entries = l.entries }
 -- what converting s does is what writing the library l does
 pub record AsWrite (v : Edition) (s out : List ℕ) (l : Library) : Type 0 where
   pub number : convert_number v s out ≡ write_number l out
-  pub answer : length s ≡ sheet_length l
+  pub answer : convert_length s ≡ sheet_length l
   pub bytes : converted_of v s out ≡ written_of l out
 
 pub record Conversions : Type 0 where

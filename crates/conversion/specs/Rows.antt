@@ -5,7 +5,7 @@ use Rattle.sheets.specs.Sheet.{entries_of, kind_at}
 use Rattle.sheets.specs.Rows.{Sheet, SheetRow}
 use Rattle.sheets.specs.declared.edition.Edition.{Edition}
 use Rattle.sheets.specs.declared.edition.Edition.TheVariants.{One}
-use Rattle.conversion.specs.Conversion.{convert_number}
+use Rattle.conversion.specs.Conversion.{convert_number, convert_length}
 
 -- an entry of s uses approximation 4; kind byte = kind + 16 * approximation
 pub record UsesSeries (s : List ℕ) : Type 0 where
@@ -26,7 +26,7 @@ pub data ConvertRow (v : Edition) (s : List ℕ) (m : ℕ) : ℕ → Type 0 wher
 -- a number is given in its row's case, and in no other; an accepted call answers the length of the sheet
 pub record ConvertAnswer (v : Edition) (s out : List ℕ) : Type 0 where
   pub number : Only (ConvertRow v s (length out)) (convert_number v s out)
-  pub answer : convert_number v s out ≡ 0 → length s ≡ 2 + 13 * entries_of s
+  pub answer : convert_number v s out ≡ 0 → convert_length s ≡ 2 + 13 * entries_of s
 
 abbrev pub ConvertByRows : Type 0
 ConvertByRows = (v : Edition) (s out : List ℕ) → ConvertAnswer v s out

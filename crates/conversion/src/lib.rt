@@ -1,9 +1,9 @@
 // The converter (02 f): a sheet of either edition as a sheet of the one that is wanted. It needs no frame, and touches none.
 #![tactic(auto)]
 
-ghost use Rattle.std.specs.Prelude.{◌≡◌, length, IfOk};
+ghost use Rattle.std.specs.Prelude.{◌≡◌, IfOk};
 ghost use Rattle.filter_core.specs.Refusal.{number_in};
-ghost use Rattle.conversion.specs.Conversion.{series_refusal, series_among, wanted_refusal, put_over, convert_number, converted_of};
+ghost use Rattle.conversion.specs.Conversion.{series_refusal, series_among, wanted_refusal, put_over, convert_number, convert_length, converted_of};
 ghost use Rattle.conversion.specs.Rows.{ConvertByRows};
 ghost use Rattle.conversion.specs.Converted.{Conversions};
 
@@ -56,7 +56,7 @@ fn put_sheet(wanted: Edition, sheet: &[u8], output: &mut [u8])
 // in that edition already is copied. Places behind the sheet keep their contents.
 pub fn convert(wanted: Edition, sheet: &[u8], output: &mut [u8]) -> Result<usize, Refusal>
     ensures refusal { number_in result ≡ convert_number wanted sheet.now output.old }
-    ensures answer { IfOk result (λ answer. answer ≡ length sheet.now) }
+    ensures answer { IfOk result (λ answer. answer ≡ convert_length sheet.now) }
     ensures output_after { output.new ≡ converted_of wanted sheet.now output.old }
 {
     sheets::check(sheet)?;

@@ -26,7 +26,7 @@ use Rattle.sheets.specs.Sheet.{check_of}
 use Rattle.sheets.specs.EditionOne.{check_one, lookup_one}
 use Rattle.sheets.specs.declared.edition.Edition.TheVariants.{One, Two}
 use Rattle.library.specs.Library.{count as entry_count, library_of, bytes_of, entry_at}
-use Rattle.conversion.specs.Conversion.{convert_number, converted_of}
+use Rattle.conversion.specs.Conversion.{convert_number, convert_length, converted_of}
 use Rattle.planes.specs.Planes.{planes_of, samples_of, arrange_number, arranged}
 use Rattle.any_filter.specs.Cases.{passes_of}
 use Rattle.any_filter.specs.declared.Filter.{Filter}
@@ -320,7 +320,7 @@ pub record WorkedExamples : Type 0 where
   pub edition_not_shown : lookup_one (series_sheet 2) 0 ≡ []
   -- document 02, f: the sheet in Accurate becomes one of edition 1 and goes back, and the place behind it is kept; one of edition 2 is copied to
   -- edition 2. A byte too little is refused with 12; approximation 4 in edition 1 with 15, which comes first
-  pub converted_answer : (convert_number One (accurate_sheet 2) longer ≡ 0) × (length (accurate_sheet 2) ≡ 15)
+  pub converted_answer : (convert_number One (accurate_sheet 2) longer ≡ 0) × (convert_length (accurate_sheet 2) ≡ 15)
   pub converted_bytes : converted_of One (accurate_sheet 2) longer ≡ accurate_sheet 0 ++ 0xee ∷ []
   pub converted_back : converted_of Two (accurate_sheet 0) longer ≡ accurate_sheet 2 ++ 0xee ∷ []
   pub converted_copy : converted_of Two (series_sheet 2) longer ≡ series_sheet 2 ++ 0xee ∷ []
