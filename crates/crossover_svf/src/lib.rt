@@ -90,7 +90,7 @@ impl CrossoverSvf {
     pub fn process(&mut self, in_: &[f32], out: &mut [f32], mode: FilterMode)
         ensures { Filtered (each (crossover_next mode)) (puts (crossover_out mode)) self.old (within in_.now out.old) out.old self.new out.new }
     {
-        filter_core::filter_each(&mode, self, in_, out);
+        filter_core::filter_each_held(&mode, self, in_, out);
     }
 }
 

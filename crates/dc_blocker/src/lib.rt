@@ -43,9 +43,12 @@ impl DcBlocker {
     pub fn process(&mut self, in_out: &mut [f32])
         ensures { Filtered (each dc_next) (puts dc_out) self.old in_out.old in_out.old self.new in_out.new }
     {
+        // A filter of its own, as in `filter_each_held`.
+        let mut filter = *self;
         for x in in_out.iter_mut() {
-            *x = self.next(*x);
+            *x = filter.next(*x);
         }
+        *self = filter;
     }
 }
 

@@ -58,3 +58,37 @@ pub fn filter_pair<S, F: PairForm<S>>(
         (first[i], second[i]) = form.step(filter, input[i]);
     }
 }
+
+// ---- the same with the filter in a variable of its own, which stays in registers: behind the reference, each sample's state would be stored
+// before the next one reads it, and a filter's time is that of the chain from state to state
+
+pub fn filter_each_held<S: Copy, F: Form<S>>(
+    form: &F,
+    filter: &mut S,
+    input: &[f32],
+    output: &mut [f32],
+)
+    ensures { Filtered (each (F.next form.now)) (puts (F.out form.now)) filter.old (within input.now output.old)
+        output.old filter.new output.new }
+{
+    let mut held = *filter;
+    filter_each(form, &mut held, input, output);
+    *filter = held;
+}
+
+pub fn filter_pair_held<S: Copy, F: PairForm<S>>(
+    form: &F,
+    filter: &mut S,
+    input: &[f32],
+    first: &mut [f32],
+    second: &mut [f32],
+)
+    ensures firsts { Filtered (each (F.next form.now)) (puts (F.first form.now)) filter.old
+        (within (within input.now first.old) second.old) first.old filter.new first.new }
+    ensures seconds { Filtered (each (F.next form.now)) (puts (F.second form.now)) filter.old
+        (within (within input.now first.old) second.old) second.old filter.new second.new }
+{
+    let mut held = *filter;
+    filter_pair(form, &mut held, input, first, second);
+    *filter = held;
+}

@@ -14,7 +14,7 @@ ghost use Rattle.filter_core.specs.Mode.{by_mode};
 ghost use Rattle.filter_core.specs.Rows.{RefusalsByRows};
 ghost use Rattle.filter_core.specs.Series.{horner};
 
-pub use form::{Form, PairForm, filter_each, filter_pair};
+pub use form::{Form, PairForm, filter_each, filter_each_held, filter_pair, filter_pair_held};
 pub use number::UnknownNumber;
 pub use refusal::{EXACT_LOWEST, Refusal, check_frequency, check_step, number_in};
 

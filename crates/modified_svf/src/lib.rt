@@ -67,7 +67,7 @@ impl ModifiedSvf {
     pub fn process(&mut self, in_: &[f32], out: &mut [f32], mode: FilterMode)
         ensures { Filtered (each (modified_next mode)) (puts (modified_out mode)) self.old (within in_.now out.old) out.old self.new out.new }
     {
-        filter_core::filter_each(&mode, self, in_, out);
+        filter_core::filter_each_held(&mode, self, in_, out);
     }
 }
 

@@ -171,7 +171,7 @@ impl NaiveSvf {
     pub fn process_buffer(&mut self, in_: &[f32], out: &mut [f32], mode: FilterMode)
         ensures { Filtered (each naive_next) (puts (naive_out mode)) self.old (within in_.now out.old) out.old self.new out.new }
     {
-        filter_core::filter_each(&mode, self, in_, out);
+        filter_core::filter_each_held(&mode, self, in_, out);
     }
 
     pub fn split(&mut self, in_: &[f32], low: &mut [f32], high: &mut [f32])
@@ -180,7 +180,7 @@ impl NaiveSvf {
         ensures highs { Filtered (each naive_next) (puts naive_high) self.old (within (within in_.now low.old) high.old)
             high.old self.new high.new }
     {
-        filter_core::filter_pair(&Split, self, in_, low, high);
+        filter_core::filter_pair_held(&Split, self, in_, low, high);
     }
 
     // Filters every sample and writes the places 0, decimate, 2 decimate .. only, each at its own place. A decimation of 0 is refused.
@@ -204,11 +204,13 @@ impl NaiveSvf {
         ensures { Filtered (each naive_next) (puts_due decimate (naive_out mode)) self.old (within in_.now out.old) out.old self.new out.new }
     {
         let n = in_.len().min(out.len());
+        // A filter of its own, as in `filter_each_held`.
+        let mut filter = *self;
         // The phase begins anew at each call. It is counted down, so that no sample has a division. Tried with chunks:
         // after a loop over `chunks(..).zip(chunks_mut(..))` a proof knows the length of `out`, and nothing of what was written.
         let mut left = 0;
         for i in 0..n {
-            let y = self.process(in_[i], mode);
+            let y = filter.process(in_[i], mode);
             let waits = left > 0;
             if waits {
                 left -= 1;
@@ -217,6 +219,7 @@ impl NaiveSvf {
             out[i] = y;
             left = decimate - 1;
         }
+        *self = filter;
     }
 }
 

@@ -11,12 +11,17 @@ ghost use Rattle.runs.specs.Run.{only_plain, throughout, svf_form, naive_form, R
 use crate::RunForm;
 use any_filter::{Filter, Passes};
 use crossover_svf::CrossoverSvf;
-use filter_core::{FilterMode, Form, Refusal, filter_each};
+use filter_core::{FilterMode, Form, Refusal, filter_each_held};
 use naive_svf::NaiveSvf;
 use svf::Svf;
 
 // A filter that has the plain form alone, by its mode: each is refused what a `OnePole` is.
-fn run_plain<S>(f: &mut S, form: RunForm, input: &[f32], output: &mut [f32]) -> Result<(), Refusal>
+fn run_plain<S: Copy>(
+    f: &mut S,
+    form: RunForm,
+    input: &[f32],
+    output: &mut [f32],
+) -> Result<(), Refusal>
 where
     FilterMode: Form<S>,
     ensures refusal { number_in result ≡ run_refusal type.OnePole form }
@@ -25,7 +30,7 @@ where
     let RunForm::Plain(mode) = form else {
         return Err(Refusal::Form);
     };
-    filter_each(&mode, f, input, output);
+    filter_each_held(&mode, f, input, output);
     Ok(())
 }
 

@@ -10,7 +10,7 @@ ghost use Rattle.runs.specs.Run.{svf_form, naive_form, RanTwoBy, RanTwo};
 
 use crate::RunForm;
 use any_filter::Filter;
-use filter_core::{Refusal, filter_pair};
+use filter_core::{Refusal, filter_pair_held};
 use naive_svf::NaiveSvf;
 use svf::{Pair, Svf};
 
@@ -35,7 +35,7 @@ fn run_two_svf(
                 first: a,
                 second: b,
             };
-            filter_pair(&pair, f, input, first, second);
+            filter_pair_held(&pair, f, input, first, second);
             Ok(())
         }
         _ => Err(Refusal::Form),

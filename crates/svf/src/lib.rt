@@ -157,14 +157,14 @@ impl Svf {
     pub fn process_buffer(&mut self, in_: &[f32], out: &mut [f32], mode: FilterMode)
         ensures { Filtered (each svf_next) (puts (svf_out mode)) self.old (within in_.now out.old) out.old self.new out.new }
     {
-        filter_core::filter_each(&mode, self, in_, out);
+        filter_core::filter_each_held(&mode, self, in_, out);
     }
 
     // The output is overwritten with the gained sample, and nothing is added, as the source does.
     pub fn process_add_buffer(&mut self, in_: &[f32], out: &mut [f32], gain: f32, mode: FilterMode)
         ensures { Filtered (each svf_next) (puts (svf_gained mode gain)) self.old (within in_.now out.old) out.old self.new out.new }
     {
-        filter_core::filter_each(&Gain { mode, gain }, self, in_, out);
+        filter_core::filter_each_held(&Gain { mode, gain }, self, in_, out);
     }
 
     // Filters and writes the places 0, stride, 2 stride .. only. A stride of 0 is refused.
@@ -188,10 +188,13 @@ impl Svf {
         ensures { Filtered (each_due stride svf_next) (puts_due stride (svf_out mode)) self.old (within in_.now out.old) out.old self.new out.new }
     {
         let n = in_.len().min(out.len());
+        // A filter of its own, as in `filter_each_held`.
+        let mut filter = *self;
         // A counted loop, as 01 asks.
         for i in (0..n).step_by(stride) {
-            out[i] = self.process(in_[i], mode);
+            out[i] = filter.process(in_[i], mode);
         }
+        *self = filter;
     }
 
     pub fn process_multimode_buffer(&mut self, in_: &[f32], out: &mut [f32], mode: f32)
@@ -202,7 +205,7 @@ impl Svf {
             band: multimode::band_gain(mode),
             low: multimode::low_gain(mode),
         };
-        filter_core::filter_each(&mix, self, in_, out);
+        filter_core::filter_each_held(&mix, self, in_, out);
     }
 
     pub fn process_add_dual_buffer(
@@ -224,7 +227,7 @@ impl Svf {
             first: gain_1,
             second: gain_2,
         };
-        filter_core::filter_pair(&gains, self, in_, out_1, out_2);
+        filter_core::filter_pair_held(&gains, self, in_, out_1, out_2);
     }
 }
 
