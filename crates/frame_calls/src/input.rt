@@ -4,23 +4,23 @@ use crate::answers::answer;
 use crate::faults;
 use crate::output::{flush, flush_if_enough};
 use crate::text::{Output, put_long_line};
-use arrayvec::ArrayVec;
 use frame::Frame;
 use std::io;
 
-// What was read and is not answered: between two reads, a line that has not ended. There is room for a line of the greatest length, 65,535
-// bytes, and its line feed, so what fills it without one is too long.
-pub(crate) type Held = ArrayVec<u8, 65536>;
+// A line may have so many bytes.
+const LONGEST: usize = 65535;
 
-// The most that one read brings.
-const READ: usize = 8192;
+// What is read: a line of the greatest length and its line feed. A read brings as much as there is room for, and no copy is made of it.
+pub(crate) type Buffer = [u8; LONGEST + 1];
 
-// What goes from one read to the next beside what is held. `skipping` says whether the rest of a long line is still to be passed over. No
-// plainer as an enum with what is held: a read puts its text there in either case.
+// What goes from one read to the next: the frame, how many lines there were, how many bytes of an unfinished line stand at the start of the
+// buffer, and whether the rest of a long line is still to be passed over. A vector in place of the buffer and `held` would take a read through
+// a buffer of its own, and so in parts, between which answers are written.
 #[derive(Drop)]
 struct Session {
     frame: Frame,
     lines: usize,
+    held: usize,
     skipping: bool,
 }
 
@@ -32,13 +32,22 @@ fn lines_begin(text: &[u8], skipping: bool) -> Option<usize> {
     Some(scan::find(text, 0, b'\n')? + 1)
 }
 
-// Reads once, puts what comes behind what is held, and answers how much it is.
-fn fill(rt: HostRuntime, held: &mut Held) -> io::Result<usize> {
-    let mut text = [0u8; READ];
-    let room = held.remaining_capacity().min(READ);
-    let n = streams::read(&mut rt.stdin(), &rt, &mut text[..room])?;
-    let _ = held.try_extend_from_slice(&text[..n]);
-    Ok(n)
+// Reads once behind what is held, and answers how many bytes there are then.
+fn fill(rt: HostRuntime, buffer: &mut [u8], held: usize) -> io::Result<usize> {
+    if buffer.len() <= held {
+        return Ok(held);
+    }
+    let n = streams::read(&mut rt.stdin(), &rt, &mut buffer[held..])?;
+    Ok(held + n)
+}
+
+// Moves the bytes from `from` up to `end` to the buffer's start, and answers how many they are.
+fn keep(buffer: &mut [u8], from: usize, end: usize) -> usize {
+    if end < from || buffer.len() < end {
+        return 0;
+    }
+    buffer.copy_within(from..end, 0);
+    end - from
 }
 
 // Each step answers None where nothing more is to be read: the input has ended or failed, or the output takes no more.
@@ -72,19 +81,21 @@ impl Session {
     }
 
     // The input has ended. The last line may lack its line feed.
-    fn last(&mut self, rt: HostRuntime, held: &Held, out: &mut Output) -> Option<()> {
+    fn last(&mut self, rt: HostRuntime, buffer: &[u8], out: &mut Output) -> Option<()> {
+        let n = streams::within(self.held, buffer);
         let lines = self.next_line();
-        answer(rt, &mut self.frame, lines, held.as_slice(), out);
+        answer(rt, &mut self.frame, lines, &buffer[..n], out);
         flush(rt, out)?;
         None
     }
 
     // Holds a line that has not ended. One that is too long already is passed over with its rest.
-    fn hold(&mut self, rt: HostRuntime, held: &mut Held, out: &mut Output) -> Option<()> {
-        if !held.is_full() {
+    fn hold(&mut self, rt: HostRuntime, held: usize, out: &mut Output) -> Option<()> {
+        if held <= LONGEST {
+            self.held = held;
             return Some(());
         }
-        held.clear();
+        self.held = 0;
         self.skipping = true;
         let lines = self.next_line();
         faults::long_line(rt, lines);
@@ -92,24 +103,26 @@ impl Session {
         flush(rt, out)
     }
 
-    // Answers the lines that are whole, and holds the rest.
-    fn take(&mut self, rt: HostRuntime, held: &mut Held, out: &mut Output) -> Option<()> {
-        let Some(start) = lines_begin(held.as_slice(), self.skipping) else {
-            held.clear();
-            return Some(());
-        };
-        self.skipping = false;
-        let from = self.take_lines(rt, start, held.as_slice(), out)?;
-        // The lines end within what is held: said here by min, and not by a clause of each function that brings the place.
-        held.drain(..from.min(held.len()));
-        self.hold(rt, held, out)
+    // Answers the lines that are whole of the buffer's first bytes, up to `end`, and holds the rest.
+    fn take(
+        &mut self,
+        rt: HostRuntime,
+        end: usize,
+        buffer: &mut [u8],
+        out: &mut Output,
+    ) -> Option<()> {
+        let n = streams::within(end, buffer);
+        let start = lines_begin(&buffer[..n], self.skipping);
+        self.skipping = start.is_none();
+        let from = self.take_lines(rt, start.unwrap_or(n), &buffer[..n], out)?;
+        self.hold(rt, keep(buffer, from, n), out)
     }
 
     // Reads once, and answers what there is then. A line that a failed read cuts off gets no answer.
-    fn step(&mut self, rt: HostRuntime, held: &mut Held, out: &mut Output) -> Option<()> {
-        match fill(rt, held) {
-            Ok(0) => self.last(rt, held, out),
-            Ok(_) => self.take(rt, held, out),
+    fn step(&mut self, rt: HostRuntime, buffer: &mut [u8], out: &mut Output) -> Option<()> {
+        match fill(rt, buffer, self.held) {
+            Ok(end) if end == self.held => self.last(rt, buffer, out),
+            Ok(end) => self.take(rt, end, buffer, out),
             Err(error) => {
                 let _ = eprintln!(rt; "frame_calls: cannot read the calls: {error}");
                 None
@@ -119,14 +132,15 @@ impl Session {
 }
 
 // A proved loop has to end, and nothing says that the input does. So the loop has a number of turns that no run uses up.
-pub(crate) fn serve(rt: HostRuntime, held: &mut Held, out: &mut Output) {
+pub(crate) fn serve(rt: HostRuntime, buffer: &mut Buffer, out: &mut Output) {
     let mut session = Session {
         frame: Frame::fresh(),
         lines: 0,
+        held: 0,
         skipping: false,
     };
     for _ in 0..u64::MAX {
-        if session.step(rt, held, out).is_none() {
+        if session.step(rt, buffer, out).is_none() {
             return;
         }
     }

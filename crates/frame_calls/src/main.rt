@@ -11,7 +11,6 @@ mod output;
 mod shown;
 mod text;
 
-use input::Held;
 use std::env::{Env, FillError};
 use text::Output;
 
@@ -24,12 +23,13 @@ fn has_argument(rt: HostRuntime) -> bool {
     }
 }
 
+// The input has room for a line of the greatest length and its line feed.
 fn main(rt: HostRuntime) {
     if has_argument(rt) {
         help::print(rt);
         return;
     }
-    let mut held = Held::new();
+    let mut buffer = [0u8; 65536];
     let mut out = Output::new();
-    input::serve(rt, &mut held, &mut out);
+    input::serve(rt, &mut buffer, &mut out);
 }
