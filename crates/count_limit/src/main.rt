@@ -7,6 +7,7 @@
 
 #![tactic(auto)]
 
+use arrayvec::ArrayVec;
 use filter_core::{FilterMode, Refusal, number_in};
 use frame::Frame;
 use runs::RunForm;
@@ -49,7 +50,7 @@ fn main(rt: HostRuntime) {
     let _ = trial.frame.open(&SHEET);
     let mut first = [7.0f32; BLOCK];
     let mut second = [7.0f32; BLOCK];
-    trial.print("An Svf, by strides of a whole run.");
+    trial.print(b"An Svf, by strides of a whole run.\n");
     trial.try_limit(
         0,
         Forms {
@@ -65,7 +66,7 @@ fn main(rt: HostRuntime) {
         &mut second,
     );
     trial.begin_anew();
-    trial.print("A naive filter, by decimation.");
+    trial.print(b"A naive filter, by decimation.\n");
     trial.try_limit(
         1,
         Forms {
@@ -83,6 +84,9 @@ fn main(rt: HostRuntime) {
 }
 
 // ---- buffers
+
+// The longest line has less.
+type Line = ArrayVec<u8, 120>;
 
 // The first place of an output, as a word.
 fn first_of(output: &[f32]) -> u32 {
@@ -128,8 +132,9 @@ impl Tried {
 
 // No plainer with the input and the outputs as one: the calls take them as parameters, and two of them are lent to be changed.
 impl Trial {
-    fn print(&mut self, heading: &str) {
-        let _ = writeln!(self.to, "{heading}");
+    // A line goes out by one write, so that nothing tears it.
+    fn print(&mut self, line: &[u8]) {
+        let _ = self.to.write_all(line);
     }
 
     // A fresh frame with the sheet open.
@@ -147,7 +152,9 @@ impl Trial {
     // What is said of a call that is called `name`.
     fn say(&mut self, name: &str, n: usize, number: u8) {
         let count = self.count();
-        let _ = writeln!(self.to, "{name}{n}: {number}, count {count}");
+        let mut line = Line::new();
+        let _ = writeln!(line, "{name}{n}: {number}, count {count}");
+        self.print(line.as_slice());
     }
 
     // ---- calls, each with its line
@@ -159,10 +166,12 @@ impl Trial {
         let n = lent.len();
         let count = self.count();
         let x = first_of(output);
+        let mut line = Line::new();
         let _ = writeln!(
-            self.to,
+            line,
             "{name}{n}: {number}, count {count}, output {x:08x}",
         );
+        self.print(line.as_slice());
     }
 
     fn run_two(
@@ -181,10 +190,12 @@ impl Trial {
         let count = self.count();
         let x = first_of(first);
         let y = first_of(second);
+        let mut line = Line::new();
         let _ = writeln!(
-            self.to,
+            line,
             "two outputs, samples {n}: {number}, count {count}, output {x:08x}, output {y:08x}",
         );
+        self.print(line.as_slice());
     }
 
     fn mark(&mut self) {
