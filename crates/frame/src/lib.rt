@@ -24,7 +24,7 @@ use runs::RunForm;
 use saves::Save;
 use std::array;
 
-#[derive(Clone, Drop)]
+#[derive(Clone, Copy)]
 pub struct Frame {
     pub heads: [Head; 12],
     pub library: Library,

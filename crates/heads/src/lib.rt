@@ -15,7 +15,7 @@ ghost use Rattle.heads.specs.Rest.{RestIsLoad};
 ghost use Rattle.heads.specs.Valid.{HeadsValid};
 
 use any_filter::Filter;
-use arrayvec::ArrayVec;
+use bounded_vec::{Blank, BoundedVec};
 use count::raised;
 use filter_core::Refusal;
 use runs::RunForm;
@@ -29,10 +29,20 @@ pub struct Snapshot {
     pub count: u32,
 }
 
-#[derive(Clone, Default, Drop)]
+impl Blank for Snapshot {
+    ghost use Rattle.heads.specs.Snapshot.{empty_snapshot};
+
+    ghost blank = { empty_snapshot };
+
+    fn blank() -> Snapshot {
+        Snapshot::default()
+    }
+}
+
+#[derive(Clone, Copy, Default)]
 pub struct Head {
     pub now: Snapshot,
-    pub marks: ArrayVec<Snapshot, 4>,
+    pub marks: BoundedVec<Snapshot, 4>,
 }
 
 // The calls that change what a head holds and leave its marks.

@@ -1,7 +1,7 @@
 // A library: a sheet's entries and its edition, held by value.
 #![tactic(auto)]
 
-ghost use Rattle.std.specs.Prelude.{◌≡◌, ◌+◌, ◌*◌, ◌≤◌, ◌<◌, [], ◌∷◌, length, IfOk};
+ghost use Rattle.std.specs.Prelude.{◌≡◌, ◌+◌, ◌*◌, ◌≤◌, ◌<◌, [], ◌∷◌, length, replicate, IfOk};
 ghost use Rattle.std.specs.List.{flat_map};
 ghost use Rattle.filter_core.specs.Refusal.{number_in};
 ghost use Rattle.lists.specs.Over.{over, Puts};
@@ -10,7 +10,7 @@ ghost use Rattle.library.specs.Library.{none, stored_in, library_of, bytes_of, w
 ghost use Rattle.library.specs.Rows.{WriteByRows};
 ghost use Rattle.library.specs.RoundTrip.{ReadWrite, WriteRead, RefusedWrite, OneSheet, SameEntries};
 
-use arrayvec::ArrayVec;
+use bounded_vec::{Blank, BoundedVec};
 use filter_core::Refusal;
 use sheets::{Edition, Entry};
 
@@ -21,11 +21,19 @@ pub struct StoredEntry {
     pub setting: [u8; 12],
 }
 
+impl Blank for StoredEntry {
+    ghost blank = { record { kind = 0; setting = replicate 12 0 } };
+
+    fn blank() -> StoredEntry {
+        StoredEntry::default()
+    }
+}
+
 // No sheet has more than 64 entries.
-#[derive(Clone, Debug, Default, Drop, PartialEq, Eq)]
+#[derive(Clone, Copy, Debug, Default, PartialEq, Eq)]
 pub struct Library {
     pub edition: Edition,
-    pub entries: ArrayVec<StoredEntry, 64>,
+    pub entries: BoundedVec<StoredEntry, 64>,
 }
 
 // The library of a frame that has opened no sheet.
@@ -58,7 +66,7 @@ fn library_of(sheet: &[u8]) -> Library
 {
     let mut library = Library {
         edition: sheets::edition_in(sheet),
-        entries: ArrayVec::new(),
+        entries: BoundedVec::new(),
     };
     // A counted loop, as 01 asks: `collect` could fail past 64 entries, and no sheet has so many.
     for e in 0..sheets::entries(sheet) {

@@ -9,15 +9,15 @@ ghost use Rattle.saves.specs.Save.{zero_bytes, no_save, left_of, unfinished_refu
 ghost use Rattle.saves.specs.Rows.{SavesByRows};
 ghost use Rattle.saves.specs.Parts.{Parts};
 
-use arrayvec::ArrayVec;
+use bounded_vec::BoundedVec;
 use filter_core::Refusal;
 use library::Library;
 
 // The bytes of its sheet that are left to take; the longest sheet has 834. A part is taken off the front, which moves what is behind it. So
 // a save is these bytes and nothing else: there is no count of taken bytes that could exceed them.
-#[derive(Clone, Debug, Drop, PartialEq, Eq)]
+#[derive(Clone, Copy, Debug, PartialEq, Eq)]
 pub struct Save {
-    pub left: ArrayVec<u8, 834>,
+    pub left: BoundedVec<u8, 834>,
 }
 
 // ---- the refusals, where so many bytes are left to take
@@ -52,7 +52,7 @@ fn begun_with(library: &Library) -> Result<Save, Refusal>
 {
     let mut sheet = [0; 834];
     let length = library::write(library, &mut sheet)?;
-    let mut left = ArrayVec::from(sheet);
+    let mut left = BoundedVec::from(sheet);
     left.truncate(length);
     Ok(Save { left })
 }
@@ -63,7 +63,7 @@ impl Save {
         ensures { result ≡ no_save }
     {
         Save {
-            left: ArrayVec::new(),
+            left: BoundedVec::new(),
         }
     }
 
@@ -87,7 +87,7 @@ impl Save {
     {
         check_finished(self.left.len())?;
         let n = lists::put(self.left.as_slice(), output, 0);
-        self.left.drain(..n);
+        self.left.remove_first(n);
         Ok(n)
     }
 }
