@@ -1,5 +1,5 @@
 -- How blanks stay behind the items.
-use Rattle.std.proofs.Common.{◌≡◌, ℕ, ◌+◌, ◌-◌, ◌<◌, ◌≤◌, List, ◌∷◌, [], ◌++◌, length, take, drop, set, replicate, sym, ap, ◌∙◌, zero-add, arith, rules}
+use Rattle.std.proofs.Common.{◌≡◌, ℕ, ◌+◌, ◌-◌, ◌<◌, ◌≤◌, List, ◌++◌, length, take, drop, set, replicate, sym, ap, ◌∙◌, zero-add, arith, rules}
 use Rattle.std.proofs.lemmas.Bool.{cases_eq}
 use Rattle.std.proofs.lemmas.List.{same_lists, places, length-set, get_or-set_same, get_or-replicate, drop-set-lt, drop-drop, drop-replicate, take_at, append_assoc, length-take-le}
 use Rattle.std.specs.List.{copy_within}
@@ -42,12 +42,12 @@ module _ {A : Type 0} where
   take_kept k m blank xs ws ys le e =
       rw (e, append_assoc) (take_at (take k xs) (replicate m blank ++ ws) k (length-take-le k xs le))
 
-  -- the items behind the first r are moved to the front, and what stands behind the moved ones stays
+  -- ---- the items behind the first r are moved to the front, where ms are the places then, and blanks are put behind them
 
   moved_is : (r c : ℕ) (xs : List A) → copy_within xs r c 0 ≡ take (c - r) (drop r xs) ++ drop (c - r) xs
   moved_is r c xs = ap (λ m. take (c - r) (drop r xs) ++ drop m xs) (zero-add (c - r))
 
-  pub moved_holds : (n r c : ℕ) (blank : A) (xs : List A) → Holds n c blank xs → r ≤ c → Holds n c blank (copy_within xs r c 0)
+  moved_holds : (n r c : ℕ) (blank : A) (xs : List A) → Holds n c blank xs → r ≤ c → Holds n c blank (copy_within xs r c 0)
   moved_holds n r c blank xs h le =
       let fits = h.fits in
       let long = h.long in
@@ -57,6 +57,14 @@ module _ {A : Type 0} where
         blanks = rw (moved_is r c xs, ← h.blanks) (same_lists _ _ (search (rules, places)) (λ i d k. grind (arith, places)));
       }
 
-  pub take_moved : (r c : ℕ) (xs : List A) → r ≤ c → c ≤ length xs → take (c - r) (copy_within xs r c 0) ≡ drop r (take c xs)
-  take_moved r c xs le fits =
-      rw (moved_is r c xs) (same_lists _ _ (search (rules, places)) (λ i d k. grind (arith, places)))
+  pub removed_holds : (n r c : ℕ) (blank : A) (xs ms ys : List A) → Holds n c blank xs → r ≤ c → ms ≡ copy_within xs r c 0
+      → ys ≡ take (c - r) ms ++ replicate (c - (c - r)) blank ++ drop c ms → Holds n (c - r) blank ys
+  removed_holds n r c blank xs ms ys h le moved e =
+      blanks_from n (c - r) c blank ms ys (rw moved (moved_holds n r c blank xs h le)) (omega arith) e
+
+  pub removed_items : (r c m : ℕ) (blank : A) (xs ms ws ys : List A) → r ≤ c → c ≤ length xs → ms ≡ copy_within xs r c 0
+      → ys ≡ take (c - r) ms ++ replicate m blank ++ ws → take (c - r) ys ≡ drop r (take c xs)
+  removed_items r c m blank xs ms ws ys le fits moved e =
+      let long : c - r ≤ length ms = rw (moved, moved_is r c xs) (search (rules, places)) in
+      take_kept (c - r) m blank ms ws ys long e
+      ∙ rw (moved, moved_is r c xs) (same_lists _ _ (search (rules, places)) (λ i d k. grind (arith, places)))

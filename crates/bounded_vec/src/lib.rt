@@ -1,5 +1,5 @@
-// A vector of at most so many items, which lie in the value itself, and which is copied as they are. A contract sees it as its items, as it
-// does the kit's ArrayVec, which cannot be copied: there nothing is known of the places behind the items. Here a blank stands in each.
+// A vector of at most so many items, which lie in the value itself and are copied with it. A contract sees its items, as it does of the kit's
+// ArrayVec. That one cannot be copied: a copy is what lies in every place, and nothing is known there of the places behind the items.
 #![tactic(auto)]
 
 ghost use Rattle.std.specs.Prelude.{⊤, ◌≡◌, ◌+◌, ◌-◌, ◌^◌, ◌<◌, ◌≤◌, ◌==◌, ◌↔◌, [], ◌∷◌, ◌++◌, length, take, drop, replicate, IsOk, OnOk, OnErr, IfErr};
@@ -12,12 +12,11 @@ ghost use Rattle.arrayvec.specs.CapacityError.{error_element};
 
 use arrayvec::CapacityError;
 use std::alloc::AllocError;
-use std::convert::AsSlice;
 use std::marker::Model;
 use std::ops::DerefSlice;
 use std::{fmt, slice};
 
-// What stands in the places that have no item.
+// What stands in a place that has no item.
 pub trait Blank: Copy {
     ghost blank: { Self };
 
@@ -33,7 +32,7 @@ impl Blank for u8 {
     }
 }
 
-// With blanks behind its items, a vector is nothing but its items: that is why it can be `Copy`.
+// A blank stands in each place behind the items, so that they say what lies in every place, and the vector can be `Copy`.
 #[derive(Copy)]
 pub struct BoundedVec<T: Blank, const N: usize> {
     places: [T; N],
@@ -76,7 +75,7 @@ impl<T: Blank, const N: usize> BoundedVec<T, N> {
         ensures value { result ≡ array_vec_len self.now }
         ensures fits { result ≤ N }
     {
-        self.count
+        self.as_slice().len()
     }
 
     pub fn is_empty(&self) -> bool
@@ -119,7 +118,7 @@ impl<T: Blank, const N: usize> BoundedVec<T, N> {
         Ok(())
     }
 
-    // Keeps the first items, as many as are said.
+    // Keeps the first `kept` items, or all where there are fewer.
     #[tactic(auto, using(crate::proofs::Blanks::blanks_from, crate::proofs::Blanks::take_kept))]
     pub fn truncate(&mut self, kept: usize)
         ensures items { self.new.items ≡ take kept self.old.items }
@@ -138,7 +137,7 @@ impl<T: Blank, const N: usize> BoundedVec<T, N> {
         self.truncate(0);
     }
 
-    // Removes the first items, as many as are said, and moves the others to the front.
+    // Removes the first `removed` items, and moves the others to the front. There must be so many.
     pub fn remove_first(&mut self, removed: usize)
         requires { removed ≤ array_vec_len self.old }
         ensures items { self.new.items ≡ drop removed self.old.items }
@@ -199,15 +198,7 @@ impl<T: Blank, const N: usize> DerefSlice for BoundedVec<T, N> {
     ghost deref_gives = { λ v xs. (xs ≡ v.items) × (length xs ≤ N) };
 
     fn deref(&self) -> &[T] {
-        self.as_slice()
-    }
-}
-
-impl<T: Blank, const N: usize> AsSlice<T> for BoundedVec<T, N> {
-    ghost items = { λ v. v.items };
-
-    fn as_slice(&self) -> &[T] {
-        self.as_slice()
+        BoundedVec::as_slice(self)
     }
 }
 
