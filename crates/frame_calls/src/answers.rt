@@ -113,7 +113,7 @@ fn check(sheet: &[u8], entry: usize, out: &mut Output) {
 fn lookup(sheet: &[u8], entry: usize, out: &mut Output) {
     put_part(
         out,
-        sheets::lookup(units_of::<u8, BYTES>(sheet).as_slice(), entry),
+        sheets::part_of(units_of::<u8, BYTES>(sheet).as_slice(), entry),
     );
 }
 
@@ -127,7 +127,7 @@ fn check_edition_one(sheet: &[u8], entry: usize, out: &mut Output) {
 
 fn lookup_edition_one(sheet: &[u8], entry: usize, out: &mut Output) {
     let sheet = units_of::<u8, BYTES>(sheet);
-    put_part(out, sheets::lookup_edition_one(sheet.as_slice(), entry));
+    put_part(out, sheets::part_of_edition_one(sheet.as_slice(), entry));
 }
 
 fn of_call(call: Call<&[u8]>, frame: &mut Frame, out: &mut Output) {

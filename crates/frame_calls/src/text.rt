@@ -118,9 +118,9 @@ pub(crate) fn put_written(out: &mut Output, answer: Result<usize, Refusal>, byte
     put(out, b"\n");
 }
 
-// The part of a sheet that a lookup lends; none where it is refused.
-pub(crate) fn put_part(out: &mut Output, part: Result<&[u8], Refusal>) {
-    put_spaced(out, part.unwrap_or(b""));
+// The part of a sheet that a lookup hands out, none where it is refused.
+pub(crate) fn put_part(out: &mut Output, part: &[u8]) {
+    put_spaced(out, part);
     put(out, b"\n");
 }
 

@@ -67,7 +67,7 @@ impl Snapshot {
         };
         runs::check_run(filter, form)?;
         let count = raised(self.count, input.len().min(output.len()))?;
-        runs::run(filter, form, input, output)?;
+        runs::run_or_leave(filter, form, input, output);
         self.count = count;
         Ok(())
     }
@@ -88,7 +88,7 @@ impl Snapshot {
         };
         runs::check_run_two(filter, form)?;
         let count = raised(self.count, input.len().min(first.len().min(second.len())))?;
-        runs::run_two(filter, form, input, first, second)?;
+        runs::run_two_or_leave(filter, form, input, first, second);
         self.count = count;
         Ok(())
     }

@@ -10,8 +10,8 @@ ghost use Rattle.runs.specs.Rows.{RunByRows};
 ghost use Rattle.runs.specs.Kept.{RunsKeepCoefficients};
 
 pub use form::{RunForm, check_run, check_run_two};
-pub use one::run;
-pub use two::run_two;
+pub use one::{run, run_or_leave};
+pub use two::{run_two, run_two_or_leave};
 
 // 9 and 10 are answered each in its row's case of the refusal table, and in no other.
 #[tactic(auto, using(crate::proofs::Rows::by_rows))]

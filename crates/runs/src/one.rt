@@ -25,7 +25,7 @@ fn run_plain<S: Copy>(
 where
     FilterMode: Form<S>,
     ensures refusal { number_in result ≡ run_refusal type.OnePole form }
-    ensures ran { RanBy (run_refusal type.OnePole form) (only_plain (λ mode. throughout (bound-1.next mode) (bound-1.out mode)) form) f.old (within input.now output.old) output.old f.new output.new }
+    ensures ran { RanBy (run_refusal type.OnePole form) (only_plain (λ mode. throughout (⟦<FilterMode as Form<S>>⟧.next mode) (⟦<FilterMode as Form<S>>⟧.out mode)) form) f.old (within input.now output.old) output.old f.new output.new }
 {
     let RunForm::Plain(mode) = form else {
         return Err(Refusal::Form);
@@ -90,4 +90,11 @@ pub fn run(
             ran
         }
     }
+}
+
+// The same, where a refusal is not told: it leaves everything, and this cannot fail.
+pub fn run_or_leave(filter: &mut Filter, form: RunForm, input: &[f32], output: &mut [f32])
+    ensures { Ran filter.old form (within input.now output.old) output.old filter.new output.new }
+{
+    let _ = run(filter, form, input, output);
 }

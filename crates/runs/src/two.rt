@@ -78,3 +78,17 @@ pub fn run_two(
         _ => Err(Refusal::Form),
     }
 }
+
+// As `run_or_leave`.
+pub fn run_two_or_leave(
+    filter: &mut Filter,
+    form: RunForm,
+    input: &[f32],
+    first: &mut [f32],
+    second: &mut [f32],
+)
+    ensures { RanTwo filter.old form (within (within input.now first.old) second.old)
+        first.old second.old filter.new first.new second.new }
+{
+    let _ = run_two(filter, form, input, first, second);
+}

@@ -29,6 +29,13 @@ pub fn lookup_edition_one(sheet: &[u8], e: usize) -> Result<&[u8], Refusal>
     Sheet::sized(Edition::One, entries(sheet), sheet)?.lookup(e)
 }
 
+// As `part_of`.
+pub fn part_of_edition_one(sheet: &[u8], e: usize) -> &[u8]
+    ensures { result.now ≡ lookup_one sheet.now e }
+{
+    lookup_edition_one(sheet, e).unwrap_or(&[])
+}
+
 pub fn check_entry_edition_one(sheet: &[u8], e: usize) -> Result<(), Refusal>
     ensures { number_in result ≡ check_entry_one sheet.now e }
 {

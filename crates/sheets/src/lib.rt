@@ -14,9 +14,11 @@ ghost use Rattle.sheets.specs.Rows.{CheckByRows, WordsReturn};
 ghost use Rattle.sheets.specs.Setters.{AsSetters};
 
 pub use edition::{Edition, edition_of};
-pub use edition_one::{check_edition_one, check_entry_edition_one, lookup_edition_one};
+pub use edition_one::{
+    check_edition_one, check_entry_edition_one, lookup_edition_one, part_of_edition_one,
+};
 pub use entry::{Entry, entry_of};
-pub use reader::{check, check_entry, edition_in, entries, lookup};
+pub use reader::{check, check_entry, edition_in, entries, lookup, part_of};
 pub use setter::{Setter, setter_in, setter_of};
 pub use sheet::setting_place;
 

@@ -48,6 +48,13 @@ pub fn lookup(sheet: &[u8], e: usize) -> Result<&[u8], Refusal>
     opened(sheet)?.lookup(e)
 }
 
+// The same part, and an empty one of what `lookup` refuses: this cannot fail.
+pub fn part_of(sheet: &[u8], e: usize) -> &[u8]
+    ensures { result.now ≡ lookup_of sheet.now e }
+{
+    lookup(sheet, e).unwrap_or(&[])
+}
+
 // Refuses what `lookup` refuses.
 pub fn check_entry(sheet: &[u8], e: usize) -> Result<(), Refusal>
     ensures { number_in result ≡ check_entry_of sheet.now e }
