@@ -1,46 +1,44 @@
 // A head as text: the type of its filter and the retained numbers in the source's declared order, with colons between.
 
 use crate::text::Output;
-use any_filter::FilterType;
+use any_filter::{Filter, FilterType};
+use digits::{Unit, put};
 use heads::{Head, Snapshot};
-use std::fmt::{self, Display, Formatter};
-use std::io::Write;
 
-fn name(filter: FilterType) -> &'static str {
+fn name(filter: FilterType) -> &'static [u8] {
     match filter {
-        FilterType::DcBlocker => "dc",
-        FilterType::OnePole => "onepole",
-        FilterType::Svf => "svf",
-        FilterType::NaiveSvf => "naive",
-        FilterType::ModifiedSvf => "modified",
-        FilterType::CrossoverSvf => "crossover",
+        FilterType::DcBlocker => b"dc",
+        FilterType::OnePole => b"onepole",
+        FilterType::Svf => b"svf",
+        FilterType::NaiveSvf => b"naive",
+        FilterType::ModifiedSvf => b"modified",
+        FilterType::CrossoverSvf => b"crossover",
     }
 }
 
-// What a head or a mark holds, as text.
-#[derive(Clone, Copy)]
-struct Shown<'a>(&'a Snapshot);
+// The numbers are put as samples are: a `Display`, with `write!` and its width, took a third more time for such a line.
+fn put_filter(out: &mut Output, filter: &Filter) {
+    let filter_type = filter.filter_type();
+    put(out, name(filter_type));
+    for field in filter.fields().iter().take(filter_type.field_count()) {
+        put(out, b":");
+        put(out, field.text().as_slice());
+    }
+}
 
-impl Display for Shown<'_> {
-    fn fmt<W: fmt::Write>(&self, f: &mut Formatter<W>) -> fmt::Result {
-        let Some(filter) = &self.0.filter else {
-            return f.write_str("empty");
-        };
-        let filter_type = filter.filter_type();
-        f.write_str(name(filter_type))?;
-        for word in filter.words().iter().take(filter_type.field_count()) {
-            write!(f, ":{word:08x}")?;
-        }
-        Ok(())
+// What a head or a mark holds.
+fn put_snapshot(out: &mut Output, snapshot: &Snapshot) {
+    put(out, b" ");
+    match &snapshot.filter {
+        Some(filter) => put_filter(out, filter),
+        None => put(out, b"empty"),
     }
 }
 
 // What the head holds, then its marks, oldest first.
 pub(crate) fn put_head(out: &mut Output, head: &Head) {
-    let now = Shown(&head.now);
-    let _ = write!(out, " {now}");
+    put_snapshot(out, &head.now);
     for mark in head.marks.as_slice() {
-        let mark = Shown(mark);
-        let _ = write!(out, " {mark}");
+        put_snapshot(out, mark);
     }
 }
