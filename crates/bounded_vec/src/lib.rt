@@ -92,6 +92,7 @@ impl<T: Blank, const N: usize> BoundedVec<T, N> {
     }
 
     // Appends an item. There must be room.
+    #[tactic(auto, using(crate::proofs::Blanks::put_next, std::proofs::lemmas::Grind::common_steps))]
     pub fn push(&mut self, item: T)
         requires { array_vec_len self.old < N }
         ensures items { self.new.items ≡ self.old.items ++ item ∷ [] }
@@ -138,6 +139,7 @@ impl<T: Blank, const N: usize> BoundedVec<T, N> {
     }
 
     // Removes the first `removed` items, and moves the others to the front. There must be so many.
+    #[tactic(auto, using(crate::proofs::Blanks::removed_holds, crate::proofs::Blanks::removed_items, std::proofs::lemmas::Grind::common_steps))]
     pub fn remove_first(&mut self, removed: usize)
         requires { removed ≤ array_vec_len self.old }
         ensures items { self.new.items ≡ drop removed self.old.items }
