@@ -29,6 +29,7 @@ pub struct Snapshot {
     pub count: u32,
 }
 
+// A place without a mark has what an empty head holds.
 impl Blank for Snapshot {
     ghost use Rattle.heads.specs.Snapshot.{empty_snapshot};
 

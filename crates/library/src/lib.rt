@@ -21,6 +21,7 @@ pub struct StoredEntry {
     pub setting: [u8; 12],
 }
 
+// A place without an entry has zeros.
 impl Blank for StoredEntry {
     ghost blank = { record { kind = 0; setting = replicate 12 0 } };
 
