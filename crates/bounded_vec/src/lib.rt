@@ -91,9 +91,9 @@ impl<T: Blank, const N: usize> BoundedVec<T, N> {
         &self.places[..self.count]
     }
 
-    // Appends an item. There must be room.
+    // Appends an item, for which there is room.
     #[tactic(auto, using(crate::proofs::Blanks::put_next, std::proofs::lemmas::Grind::common_steps))]
-    pub fn push(&mut self, item: T)
+    fn put_next(&mut self, item: T)
         requires { array_vec_len self.old < N }
         ensures items { self.new.items ≡ self.old.items ++ item ∷ [] }
         ensures len { array_vec_len self.new ≡ array_vec_len self.old + 1 }
@@ -115,8 +115,16 @@ impl<T: Blank, const N: usize> BoundedVec<T, N> {
         if self.len() == N {
             return Err(CapacityError::new(item));
         }
-        self.push(item);
+        self.put_next(item);
         Ok(())
+    }
+
+    // Appends an item, or leaves it out where there is no room.
+    pub fn push(&mut self, item: T)
+        ensures room { array_vec_len self.old < N → self.new.items ≡ self.old.items ++ item ∷ [] }
+        ensures full { N ≤ array_vec_len self.old → self.new ≡ self.old }
+    {
+        let _ = self.try_push(item);
     }
 
     // Keeps the first `kept` items, or all where there are fewer.
@@ -138,9 +146,9 @@ impl<T: Blank, const N: usize> BoundedVec<T, N> {
         self.truncate(0);
     }
 
-    // Removes the first `removed` items, and moves the others to the front. There must be so many.
+    // Moves what stands behind the first `removed` items, which are there, to the front.
     #[tactic(auto, using(crate::proofs::Blanks::removed_holds, crate::proofs::Blanks::removed_items, std::proofs::lemmas::Grind::common_steps))]
-    pub fn remove_first(&mut self, removed: usize)
+    fn move_to_front(&mut self, removed: usize)
         requires { removed ≤ array_vec_len self.old }
         ensures items { self.new.items ≡ drop removed self.old.items }
         ensures len { array_vec_len self.new + removed ≡ array_vec_len self.old }
@@ -149,6 +157,13 @@ impl<T: Blank, const N: usize> BoundedVec<T, N> {
         self.places.copy_within(removed..count, 0);
         blank_between(&mut self.places, count - removed, count);
         self.count = count - removed;
+    }
+
+    // Removes the first `removed` items, or all where there are fewer, and moves the others to the front.
+    pub fn remove_first(&mut self, removed: usize)
+        ensures { self.new.items ≡ drop removed self.old.items }
+    {
+        self.move_to_front(removed.min(self.len()));
     }
 }
 
