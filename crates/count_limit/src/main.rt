@@ -167,10 +167,7 @@ impl Trial {
         let count = self.count();
         let x = first_of(output);
         let mut line = Line::new();
-        let _ = writeln!(
-            line,
-            "{name}{n}: {number}, count {count}, output {x:08x}",
-        );
+        let _ = writeln!(line, "{name}{n}: {number}, count {count}, output {x:08x}",);
         self.print(line.as_slice());
     }
 
