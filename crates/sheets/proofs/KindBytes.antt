@@ -8,7 +8,7 @@ use native.Mathlib.Omega.{arith}
 use borrow.Author.Tests.{lt-ltb, le-ltb}
 use lib.Dec.{ltb}
 use lib.ListN.{length, get_or}
-use Rattle.std.specs.Prelude.{Option, Some, None, slice_get}
+use Rattle.std.specs.Prelude.{Option, Some, None, IsSome, slice_get}
 use Rattle.std.specs.Option.{option_and_then}
 use Rattle.std.proofs.lemmas.Bool.{cases_lt}
 use Rattle.std.proofs.lemmas.Option.{slice_get_past, slice_get-get_or}
@@ -55,6 +55,25 @@ numbered One (suc (suc zero)) = refl
 numbered One (suc (suc (suc zero))) = refl
 numbered One (suc (suc (suc (suc zero)))) = refl
 numbered One (suc (suc (suc (suc (suc n))))) = refl
+
+-- ---- the kinds that take approximation 0 alone do take it
+
+-- the kind k takes the approximations up to l
+abbrev pub Takes : ℕ → ℕ → Type 0
+Takes k l = (p : ℕ) → p ≤ l → IsSome (setter_for k (get_or (approximations_in Two) p Series))
+
+pub takes_1 : (k : ℕ) → 0 < k → k < 2 → Takes k 0
+takes_1 k x y p h = let e : k ≡ 1 = omega arith in let z : p ≡ 0 = omega arith in rw (e, z) refl
+
+pub takes_4 : (k : ℕ) → k ≡ 4 → Takes k 0
+takes_4 k e p h = let z : p ≡ 0 = omega arith in rw (e, z) refl
+
+pub takes_6_7 : (k : ℕ) → 5 < k → k < 8 → Takes k 0
+takes_6_7 k x y p h = go (cases_lt k 7)
+  where
+    go : (k < 7) ⊎ (7 ≤ k) → IsSome (setter_for k (get_or (approximations_in Two) p Series))
+    go (inl l) = let e : k ≡ 6 = omega arith in let z : p ≡ 0 = omega arith in rw (e, z) refl
+    go (inr l) = let e : k ≡ 7 = omega arith in let z : p ≡ 0 = omega arith in rw (e, z) refl
 
 -- ---- the byte by its halves
 

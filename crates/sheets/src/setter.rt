@@ -42,13 +42,17 @@ fn last_for_kind(edition: Edition, kind: u8) -> u8
     ensures taken { (p : ℕ) → p ≤ result → IsSome (setter_for kind (get_or (approximations_in Two) p Series)) }
     ensures upper_bound { result < 5 }
 {
-    if kind < 2 {
+    // A test has a name here, by which its proof goes, so that a wrong limit is refused by a fact.
+    let is_first = kind < 2;
+    if is_first {
         return 0;
     }
-    if kind == 4 {
+    let is_fourth = kind == 4;
+    if is_fourth {
         return 0;
     }
-    if 5 < kind {
+    let is_past_fifth = 5 < kind;
+    if is_past_fifth {
         return 0;
     }
     last_approximation(edition)

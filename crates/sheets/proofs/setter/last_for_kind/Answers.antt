@@ -1,14 +1,12 @@
-use Rattle.std.proofs.Common.{rules, arith, ◌≡◌}
+use Rattle.std.proofs.Common.{arith}
+use Rattle.sheets.proofs.KindBytes.{takes_1, takes_4, takes_6_7}
 use Rattle.sheets.proofs.setter.last_for_kind.Goals as goal
 
-pub returns-then-kind-lt2-clause-taken : goal.returns-then-kind-lt2-clause-taken
-returns-then-kind-lt2-clause-taken c p h =
-    let e : c.args.kind ≡ 1 = omega arith in
-    let z : p ≡ 0 = omega arith in
-    rw (e, z) (search rules)
+pub returns-then-is_first-clause-taken : goal.returns-then-is_first-clause-taken
+returns-then-is_first-clause-taken c = takes_1 c.args.kind (omega arith) (omega arith)
 
-pub returns-then-kind-eq4-clause-taken : goal.returns-then-kind-eq4-clause-taken
-returns-then-kind-eq4-clause-taken c p h = let z : p ≡ 0 = omega arith in rw z (search rules)
+pub returns-then-is_fourth-clause-taken : goal.returns-then-is_fourth-clause-taken
+returns-then-is_fourth-clause-taken c = takes_4 c.args.kind (omega arith)
 
-pub returns-then-kind-gt5-clause-taken : goal.returns-then-kind-gt5-clause-taken
-returns-then-kind-gt5-clause-taken c p h = let z : p ≡ 0 = omega arith in rw z (search rules)
+pub returns-then-is_past_fifth-clause-taken : goal.returns-then-is_past_fifth-clause-taken
+returns-then-is_past_fifth-clause-taken c = takes_6_7 c.args.kind (omega arith) (omega arith)
