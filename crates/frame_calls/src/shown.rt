@@ -16,7 +16,7 @@ fn name(filter: FilterType) -> &'static [u8] {
     }
 }
 
-// The numbers are put as samples are: by a `Display`, with `write!` and its width, such a line takes about twice as long.
+// The numbers are put as samples are: by a `Display`, with `write!` and its width, such a line takes longer.
 fn put_filter(out: &mut Output, filter: &Filter) {
     let filter_type = filter.filter_type();
     put(out, name(filter_type));
